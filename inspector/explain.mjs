@@ -38,11 +38,11 @@ function partsOf(response, library) {
 }
 
 function registrationSession(session, { RegistrationSession }) {
-  return RegistrationSession.from({ user: "", user_verification: false, ...session });
+  return RegistrationSession.fromJSON({ user: "", user_verification: false, algorithms: [-7, -8, -257], ...session });
 }
 
 function signInSession(session, { SignInSession }) {
-  return SignInSession.from({ user: null, allow: [], user_verification: false, ...session });
+  return SignInSession.fromJSON({ user: null, allow: [], user_verification: false, ...session });
 }
 
 // The row of a sign-in, in the names of JSON; its key as COSE_Key bytes, as a browser gives it, or by its numbers.

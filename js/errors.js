@@ -84,6 +84,27 @@ export class RowDamaged extends Error {
 }
 marked(RowDamaged, "RowDamaged");
 
+/** The row of an open session is not one that a site writes: see to the row of this session. */
+export class SessionDamaged extends Error {
+  constructor(session, text, options) {
+    super(text, options);
+    this.name = "SessionDamaged";
+    this.code = "GARVOENG_SESSION_DAMAGED";
+    this.session = session;
+  }
+}
+marked(SessionDamaged, "SessionDamaged");
+
+/** What `read` makes of a session's row. Who has the whole number has what the visitor has, so a text has its front. */
+export function ofSession(number, read) {
+  try {
+    return read();
+  } catch (error) {
+    if (!(error instanceof BadInput)) throw error;
+    throw new SessionDamaged(number, `the row of the session ${number.slice(0, 8)} is damaged: ${error.message}`, { cause: error });
+  }
+}
+
 /** Hands a value to the host's logger. What the logger throws is nobody's to catch, and is passed over. */
 export function logTo(logger, value) {
   try {

@@ -68,7 +68,7 @@ export function fromText(text, what = "the text") {
 
 /** The text of a session: of what no begin gave none, which is an unknown session to the program. */
 export function sealed(session) {
-  if (typeof session !== "string" || session.length > MAX_SESSION) return "";
+  if (session === null || session.length > MAX_SESSION) return "";
   return readInto(new Uint8Array(sizeOf(session)), 0, session) ? session : "";
 }
 

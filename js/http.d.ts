@@ -1,6 +1,5 @@
 // The requests of a site with passkeys, for Node.
-import { SignOuts, StoredServer } from "./index.js";
-import { SqlServer } from "./sql.js";
+import { PasskeyServer, SignOuts } from "./index.js";
 
 /** What is asked of a request: those of `node:http` and of Express. */
 export interface SiteRequest {
@@ -68,4 +67,4 @@ export interface Passkeys {
  *  user handle is 32 random bytes; one who is signed in gets one more passkey, shortly after a sign-in. A body has at most 131,072 bytes and is `application/json`.
  *  Answers are JSON: a refusal is 403 with `error` and `refusal`, its name; what is no input is 400 with `error`; what wants a sign-in
  *  is 401; a damaged row, and a body that the host read and did not hand on, is 500; what failed is 503. */
-export function passkeys(server: StoredServer | SqlServer, options: PasskeysOptions): Passkeys;
+export function passkeys(server: PasskeyServer, options: PasskeysOptions): Passkeys;

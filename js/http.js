@@ -2,7 +2,7 @@
 // has begun has its session alone; signed are who began a registration, and who is signed in.
 import { createHmac, randomBytes, timingSafeEqual } from "node:crypto";
 import { readFileSync } from "node:fs";
-import { BadInput, Refused, RowDamaged, logTo } from "./errors.js";
+import { BadInput, Refused, RowDamaged, SessionDamaged, logTo } from "./errors.js";
 import { fromText, toText } from "./forms.js";
 import { RateLimit } from "./rate_limit.js";
 import { checkFlag, checkFunction, checkWhole, isBytes, optionsIn, shown } from "./limits.js";
@@ -190,7 +190,7 @@ const OPTIONS = ["secret", "secure", "logger", "lifetime", "fresh", "signOuts", 
 function optionsOf(server, options) {
   for (const name of ["registerBegin", "registerComplete", "authenticateBegin", "authenticateComplete", "rows", "abandon", "delete"])
     if (typeof server?.[name] !== "function")
-      throw new BadInput("passkeys is over a server that keeps rows, and this one does not: write a StoredServer, or new SqlServer(new Server(..), pool)");
+      throw new BadInput("passkeys is over a server that keeps rows, and this one does not: write a StoredServer, new SqlServer(new Server(..), pool) or new KeepingServer(new Server(..), store)");
   const own = optionsIn(options, "passkeys", OPTIONS);
   const { secure = !server.origins.every((origin) => origin.startsWith("http://")), signOuts = server.signOuts, logger = console.error, lifetime = 86_400, fresh = 300 } = own;
   const { rateLimit = new RateLimit() } = own;
@@ -228,17 +228,15 @@ export function passkeys(server, options) {
   }
 
   async function signsIn(request, body) {
-    const { user, id } = await server.authenticateComplete(cookies.text(request, SIGN_IN), body);
+    const { credential: { user, id } } = await server.authenticateComplete(cookies.text(request, SIGN_IN), body);
     await signIns.end(request);
     return [{ user: toText(user) }, signIns.begun(user, id), cookies.ended(SIGN_IN)];
   }
 
   async function signsOut(request) {
     await signIns.end(request);
-    // What another store gave, before this one took its place, is not open here.
-    const passOver = (error) => (error instanceof BadInput ? false : Promise.reject(error));
     for (const session of [cookies.found(request, REGISTRATION)?.session, cookies.text(request, SIGN_IN)])
-      if (typeof session === "string") await server.abandon(session).catch(passOver);
+      if (typeof session === "string") await server.abandon(session);
     return [{}, ...[USER, REGISTRATION, SIGN_IN].map((name) => cookies.ended(name))];
   }
 
@@ -263,7 +261,7 @@ export function passkeys(server, options) {
       if (error instanceof TooOften) return [429, { error: error.message }, [], { "Retry-After": String(error.wait) }];
       if (error instanceof SignInFirst) return [401, { error: error.message }, []];
       logTo(logger, error);
-      if (error instanceof RowDamaged) return [500, { error: "the site's record of this passkey is damaged" }, []];
+      if (error instanceof RowDamaged || error instanceof SessionDamaged) return [500, { error: "what is stored is damaged" }, []];
       return error instanceof HostFault ? [500, { error: error.message }, []] : [503, { error: "try again" }, []];
     }
   }

@@ -1,51 +1,16 @@
 // The package in Node.
-import { Awaitable, Credential, Registered, RegistrationOptions, ServerOptions, SignInOptions, Told } from "./web.js";
+import { KeptCredential, PasskeyServer, Registered, RegistrationOptions, ServerOptions, SignInOptions, SignOuts, SignedIn } from "./web.js";
 export {
-  Awaitable, BadInput, Credential, CredentialMembers, EDDSA, ES256, Ids, MAX_LIST, NoMemory, OptionsOfBoth, RS256, Refused, Registered,
-  RegistrationOptions, RegistrationSession, Requirement, RowDamaged, Server, ServerOptions, SignInOptions, SignInSession, SignedIn, Told, Verify,
-  coseKeyOf, credentialFromCose, fromText, isCanonical, toText,
+  Awaitable, BadInput, Credential, CredentialMembers, EDDSA, ES256, Ids, KeepingServer, KeptCredential, KeptMembers, MAX_LIST, MemoryStore, NoMemory,
+  OpenSession, OptionsOfBoth, PasskeyServer, RS256, Refused, Registered, RegistrationOptions, RegistrationSession, Requirement, RowDamaged, Server,
+  ServerOptions, SessionDamaged, SignInOptions, SignInSession, SignOuts, SignedIn, Store, StoreFailed, Told, Verify, coseKeyOf, credentialFromCose, fromText, isCanonical, toText,
 } from "./web.js";
-
-/** The program or the database could not be reached, ended before it answered, or failed: what was asked is done or is not. The next
- *  call tries anew. */
-export class StoreFailed extends Error {
-  constructor(text: string, options?: { cause?: unknown });
-  readonly code: "GARVOENG_STORE_FAILED";
-}
-
-/** Which sign-ins of `garvoeng/http` ended before their time. `number` is a text of 32 hex digits; times are milliseconds since 1970. */
-export interface SignOuts {
-  /** A sign-in has ended; this is to be known up to `until`. */
-  add(number: string, until: number): Awaitable<void>;
-  /** Whether a sign-in, which was accepted `at` that time, has ended: true or false. */
-  has(number: string, at: number): Awaitable<boolean>;
-}
-
-/** A sign-in that was accepted. It is stored already. */
-export interface StoredSignIn extends Told {
-  /** The credential's id. */
-  readonly id: Uint8Array;
-  /** The user handle. */
-  readonly user: Uint8Array;
-  /** The signature counter that was received. */
-  readonly signCount: number;
-}
-
-/** A credential of a `StoredServer`'s file, and what is known of it. A row that was made before these were kept has null, and no transports. */
-export interface KeptCredential extends Credential {
-  /** The kind of the authenticator, by its own word: 16 bytes. */
-  readonly aaguid: Uint8Array | null;
-  /** When it was registered: seconds since 1970. */
-  readonly createdAt: number | null;
-  /** When it signed in last: seconds since 1970. */
-  readonly usedAt: number | null;
-}
 
 export interface StoredServerOptions extends ServerOptions {
   /** The most credentials, up to 1,000,000: 1,000,000. */
   maxCredentials?: number;
   /** Whether the file must be there: false. */
-  isExisting?: boolean;
+  existing?: boolean;
   /** What `known` was: each copy of the file that lacks that change is refused, and none is made. */
   atLeast?: number;
   /** Whether each commit flushes twice, for disks that may leave any bytes of a write that is cut off: false. */
@@ -53,7 +18,7 @@ export interface StoredServerOptions extends ServerOptions {
   /** What the program tells: nothing, refusals (also `true`), or acceptances and errors too. */
   log?: boolean | "refusals" | "all";
   /** Seconds after which a session ends by itself, up to 1,000,000: 300. */
-  expire?: number;
+  lifetime?: number;
   /** Milliseconds after which a program that does not answer is ended: 30,000. */
   timeout?: number;
   /** What gets each line that the program tells: `console.error`. */
@@ -79,7 +44,7 @@ export interface SiteStatus {
 /** A relying party over the SQLite file of the proved program passkey-site, which runs beside this process and ends with it. One
  *  process has the file: of node:cluster it is the primary, where a `StoredServer` of the same words answers what those of the
  *  workers ask. A call whose program ended is rejected by `StoreFailed`, and the next call starts the program again. */
-export class StoredServer {
+export class StoredServer implements PasskeyServer {
   /** `program` and `file` are paths; the file is made where there is none. */
   constructor(program: string, file: string, rpId: string, origins: readonly string[], options?: StoredServerOptions);
   readonly rpId: string;
@@ -97,7 +62,7 @@ export class StoredServer {
    *  are too many, any of them that the browser finds may answer. */
   authenticateBegin(options?: SignInOptions): Promise<{ options: object; session: string }>;
   /** Who signed in, of an AuthenticationResponseJSON. Rejected as `registerComplete`. */
-  authenticateComplete(session: string | null, response: unknown): Promise<StoredSignIn>;
+  authenticateComplete(session: string | null, response: unknown): Promise<SignedIn>;
   /** A credential signs in no more, and its account's open registrations end; whether it did until now. With `user` one of another account
    *  is left as it is. */
   retire(id: Uint8Array, user?: Uint8Array | null): Promise<boolean>;
@@ -108,8 +73,6 @@ export class StoredServer {
   retireAll(user: Uint8Array): Promise<number>;
   /** An account's credentials are forgotten at once, and its open registrations end; how many they were. */
   erase(user: Uint8Array): Promise<number>;
-  /** As `erase`. */
-  deleteAccount(user: Uint8Array): Promise<number>;
   /** A session ends; whether it was open. */
   abandon(session: string | null): Promise<boolean>;
   /** The credentials of a user, or all, in order of registration, with what is known of each. */

@@ -18,6 +18,12 @@ export const MAX_USER = 64;
 /** The most bytes of a credential id (WebAuthn Level 2, section 4). */
 export const MAX_ID = 1023;
 
+/** The greatest signature counter (WebAuthn Level 2, section 6.1). */
+export const MAX_COUNT = 0xffffffff;
+
+/** How a credential is attested, by the library's number. */
+export const FORMATS = Object.freeze(["none", "packed"]);
+
 /** Which responses a relying party takes, by the library's number. */
 export const PROFILES = Object.freeze(["strict", "open", "level3"]);
 
@@ -36,10 +42,15 @@ export function isBytes(value) {
   return kindOfArray.call(value) === "Uint8Array";
 }
 
-/** Those of an account's credentials for which a list of so many and a line have room, the first ones. */
-export function fitting(rows, most) {
+/** What is excluded where a site gives no list: those of an account's credentials for which a list of so many and a line have room, the first ones. */
+export function fitting(rows, most = MAX_LIST) {
   let size = 0;
   return rows.slice(0, most).filter(({ id }) => (size += id.length) <= MAX_OWN);
+}
+
+/** What is listed where a site gives no list: all of an account's credentials, or none, so that any of them may answer. */
+export function allowed(rows, most = MAX_LIST) {
+  return fitting(rows, most).length === rows.length ? rows : [];
 }
 
 /** A value as an error shows it. */
@@ -153,13 +164,26 @@ export function transportsIn(value) {
   return Object.freeze(listed.filter((one) => typeof one === "string" && TRANSPORT.test(one)));
 }
 
+/** A credential id. */
+export function checkId(value) {
+  const id = checkBytes(value, "a credential id");
+  if (id.length < 1 || id.length > MAX_ID) throw new BadInput(`a credential id has 1 to ${MAX_ID} bytes`);
+  return id;
+}
+
+/** The text of a session that a visitor hands back; null where there is none. Of a text that no begin gave none is open. */
+export function checkSession(session) {
+  if (session !== undefined && session !== null && typeof session !== "string")
+    throw new BadInput(`session is ${shown(session)}: write the text that the begin gave, or null`);
+  return session ?? null;
+}
+
 /** The `{ id, transports }` of a list of ids, or of values with such members. */
 export function checkIds(ids, most = MAX_LIST) {
   if (!Array.isArray(ids)) throw new BadInput(`a list of credential ids is ${shown(ids)}: write an array of ids, or of credentials`);
   if (ids.length > most) throw new BadInput(`a list has at most ${most} credential ids`);
   return ids.map((one) => {
-    const isId = isBytes(one), id = checkBytes(isId || typeof one !== "object" || one === null ? one : one.id, "a credential id");
-    if (id.length < 1 || id.length > MAX_ID) throw new BadInput(`a credential id has 1 to ${MAX_ID} bytes`);
+    const isId = isBytes(one), id = checkId(isId || typeof one !== "object" || one === null ? one : one.id);
     return { id, transports: isId ? [] : transportsIn(one.transports) };
   });
 }
@@ -176,9 +200,16 @@ export function checkOneOf(value, what, texts) {
   return value;
 }
 
+/** The sizes of a public key's parts. */
+export function checkKey({ algorithm, x, y }) {
+  if (!ALGORITHMS.includes(algorithm)) throw new BadInput(`algorithm is ${shown(algorithm)}: ${NO_ALGORITHMS}`);
+  const fits = algorithm === RS256 ? [256, 384, 512].includes(x.length) && y.length >= 1 && y.length <= 4 : x.length === 32 && y.length === (algorithm === ES256 ? 32 : 0);
+  if (!fits) throw new BadInput("the key is out of its limits: x and y have 32 bytes of ES256, 32 and none of EdDSA, 256, 384 or 512 and 1 to 4 of RS256");
+}
+
 /** What a stored credential says, before it is handed on in fewer bits. */
 export function checkCredential({ algorithm, signCount }) {
   if (!ALGORITHMS.includes(algorithm)) throw new BadInput(`algorithm is ${shown(algorithm)}: ${NO_ALGORITHMS}`);
   if (["string", "bigint"].includes(typeof signCount)) throw new BadInput(`signCount is ${shown(signCount)}, and no number: write Number(..), since pg gives a bigint as text`);
-  checkWhole(signCount, "signCount", 0, 0xffffffff);
+  checkWhole(signCount, "signCount", 0, MAX_COUNT);
 }

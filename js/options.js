@@ -4,7 +4,7 @@ import { BadInput } from "./errors.js";
 import { descriptor, toText } from "./forms.js";
 import { PROFILES, checkFlag, checkFunction, checkOneOf, checkText, checkTopOrigins, checkWhole, optionsIn, ownOf, shown } from "./limits.js";
 
-const REQUIREMENTS = ["required", "preferred", "discouraged"];
+const REQUIREMENTS = [true, false, "required", "preferred", "discouraged"];
 const ATTACHMENTS = ["platform", "cross-platform"];
 const ATTESTATIONS = ["none", "indirect", "direct", "enterprise"];
 const HINTS = ["security-key", "client-device", "hybrid"];
@@ -36,8 +36,20 @@ export function checkAttestation(value) {
   return checkOneOf(value, "attestation", ATTESTATIONS);
 }
 
-export function checkUserVerification(value) {
-  return checkOneOf(value, "userVerification", REQUIREMENTS);
+// True is `required`; a text is itself.
+function requirementOf(value, what, ifFalse) {
+  checkOneOf(value, what, REQUIREMENTS);
+  return value === true ? "required" : value === false ? ifFalse : value;
+}
+
+/** False is `preferred`. */
+export function userVerificationOf(value) {
+  return requirementOf(value, "userVerification", "preferred");
+}
+
+/** False is `discouraged`. */
+export function residentKeyOf(value) {
+  return requirementOf(value, "residentKey", "discouraged");
 }
 
 // What both kinds may have more: `timeout` in milliseconds, `hints`, and `extensions`, which are handed on.
@@ -60,7 +72,7 @@ function more(how) {
 export function creationOptions(rp, session, userName, exclude, how) {
   const { userVerification, residentKey, authenticatorAttachment, attestation = "none", displayName } = ownOf(how);
   const authenticatorSelection = {
-    residentKey: checkOneOf(residentKey, "residentKey", REQUIREMENTS),
+    residentKey,
     requireResidentKey: residentKey === "required",
     userVerification,
   };

@@ -16,7 +16,7 @@ function typesInCommonJs() {
   return shared + own.replace(/^(import|export) \{[^}]*\} from ".*";$/gm, "");
 }
 
-const MODULES = ["errors", "forms", "http", "index", "layout", "limits", "module", "node_signatures", "options", "program", "rate_limit", "records", "server",
+const MODULES = ["errors", "forms", "http", "index", "keeping", "layout", "limits", "memory", "module", "node_signatures", "options", "program", "rate_limit", "records", "server",
                  "signouts", "sql", "stored", "verdicts", "workers"];
 rmSync(here("cjs"), { recursive: true, force: true });
 mkdirSync(here("cjs"));

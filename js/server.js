@@ -5,8 +5,8 @@ import {
   ALGORITHMS, PROFILES, checkBytes, checkCredential, checkFlag, checkFunction, checkIds, checkParty, checkText, checkUser, memberOf, optionsIn, shown,
   transportsIn,
 } from "./limits.js";
-import { checkUserVerification, creationOptions, partyOptionsIn, registrationOptionsIn, requestOptions, signInOptionsIn } from "./options.js";
-import { Credential, RegistrationSession, SignInSession, credentialIn, ofRow, rowError } from "./records.js";
+import { creationOptions, partyOptionsIn, registrationOptionsIn, requestOptions, residentKeyOf, signInOptionsIn, userVerificationOf } from "./options.js";
+import { Credential, Registered, RegistrationSession, SignInSession, SignedIn, credentialIn, ofRow, rowError } from "./records.js";
 import {
   ACCEPTED, BAD_SIGNATURE, BAD_STATEMENT, askedOfAssertion, askedOfRegistration, assertionImage, checkAnswer, handIn, isCanonical,
   judgeAssertion, judgeRegistration, keyFromCose, keyToCose, registrationImage,
@@ -26,11 +26,12 @@ function found(value) {
   return value ?? null;
 }
 
-// A session of its own class, or null where none is open.
+// A session of its own class, or null where none is open. A text is none: the page's visitor may have written it.
 function sessionOf(session, kind) {
+  if (typeof session === "string") return null;
   if (found(session) === null || session instanceof kind) return found(session);
   const [other] = [RegistrationSession, SignInSession].filter((one) => one !== kind && session instanceof one);
-  throw new BadInput(`the session is ${other === undefined ? shown(session) : `a ${other.name}`}, and no ${kind.name}: ${kind.name}.from(..) reads one that was kept as JSON`);
+  throw new BadInput(`the session is ${other === undefined ? shown(session) : `a ${other.name}`}, and no ${kind.name}: ${kind.name}.fromJSON(..) reads one that was kept as JSON`);
 }
 
 // A credential that was found, whose numbers are in their limits, or null.
@@ -62,14 +63,15 @@ export function serverOver(moduleOf, randomBytes, isValid) {
     }
 
     registerBegin(user, userName, options) {
-      const { exclude = [], algorithms = ALGORITHMS, userVerification = "preferred", residentKey = "required", attestation = "none", conditional = false, ...how } =
+      const { exclude = [], algorithms = ALGORITHMS, userVerification: verified = "preferred", residentKey = "required", attestation = "none", conditional = false, ...how } =
         registrationOptionsIn(options);
+      const userVerification = userVerificationOf(verified);
       const session = new RegistrationSession({
         challenge: randomBytes(CHALLENGE), user: checkUser(user), algorithms,
-        userVerification: checkUserVerification(userVerification) === "required", conditional, attestation: attestation !== "none",
+        userVerification: userVerification === "required", conditional, attestation: attestation !== "none",
       });
       const rp = { id: this.rpId, name: this.rpName };
-      return { options: creationOptions(rp, session, userName, checkIds(exclude), { ...how, userVerification, residentKey, attestation }), session };
+      return { options: creationOptions(rp, session, userName, checkIds(exclude), { ...how, userVerification, residentKey: residentKeyOf(residentKey), attestation }), session };
     }
 
     async registerComplete(session, response, how) {
@@ -99,14 +101,15 @@ export function serverOver(moduleOf, randomBytes, isValid) {
       checkAnswer(module, true, answer);
       const { id, algorithm, x, y, signCount, eligible, extensionsSize, ...rest } = told;
       const credential = new Credential({ id, user, algorithm, x, y, signCount, eligible, transports });
-      return Object.freeze({ credential, ...rest, extensions: last(response.attestationObject, extensionsSize) });
+      return new Registered({ credential, ...rest, extensions: last(response.attestationObject, extensionsSize) });
     }
 
     authenticateBegin(options) {
-      const { user = null, allow = [], userVerification = "preferred", ...how } = signInOptionsIn(options), listed = checkIds(allow);
+      const { user = null, allow = [], userVerification: verified = "preferred", ...how } = signInOptionsIn(options), listed = checkIds(allow);
+      const userVerification = userVerificationOf(verified);
       const session = new SignInSession({
         challenge: randomBytes(CHALLENGE), user: user === null ? null : checkUser(user), allow: listed.map(({ id }) => id),
-        userVerification: checkUserVerification(userVerification) === "required",
+        userVerification: userVerification === "required",
       });
       return { options: requestOptions(this.rpId, session, listed, userVerification, how), session };
     }
@@ -139,8 +142,8 @@ export function serverOver(moduleOf, randomBytes, isValid) {
                                                  (at) => askedOfAssertion(module, at, response));
       checkAnswer(module, false, answer);
       const { signCount, eligible, backedUp, userVerified, flags, extensionsSize } = told;
-      return Object.freeze({ credential: before.received(signCount, eligible), before, backedUp, userVerified, flags,
-                             extensions: last(response.authData, extensionsSize) });
+      return new SignedIn({ credential: before.received(signCount, eligible), before, backedUp, userVerified, flags,
+                            extensions: last(response.authData, extensionsSize) });
     }
 
     relatedOrigins() {

@@ -1,5 +1,5 @@
 // A relying party over PostgreSQL, for Node.
-import { Credential, Registered, RegistrationOptions, Server, SignInOptions, SignOuts, StoredSignIn } from "./index.js";
+import { KeptCredential, PasskeyServer, Registered, RegistrationOptions, Server, SignInOptions, SignOuts, SignedIn } from "./index.js";
 
 /** What is asked of a connection: those of `pg`. */
 export interface SqlClient {
@@ -19,7 +19,7 @@ export interface SqlPool {
 /** A `Server` whose sessions and credentials are rows, in the tables `garvoeng_version`, `garvoeng_credential` and
  *  `garvoeng_session`, which the first call makes where they are not there. Each call is one transaction; one that is rejected, by
  *  whatever, has changed nothing, but that a commit whose answer was lost (`StoreFailed`) is done or is not. */
-export class SqlServer {
+export class SqlServer implements PasskeyServer {
   /** The pool stays the host's, who ends it. `lifetime` is how many seconds a session stays open, by the clock of the process: 300.
    *  `logger` gets a `RowDamaged` for each row that is left out of a list: `console.error`. */
   constructor(server: Server, pool: SqlPool, options?: { lifetime?: number; logger?: (error: unknown) => void });
@@ -40,17 +40,19 @@ export class SqlServer {
   authenticateBegin(options?: SignInOptions): Promise<{ options: object; session: string }>;
   /** Who signed in, of an AuthenticationResponseJSON. The counter is stored, and the session closed. Rejected as `registerComplete`,
    *  or by `RowDamaged`. */
-  authenticateComplete(session: string | null, response: unknown): Promise<StoredSignIn>;
+  authenticateComplete(session: string | null, response: unknown): Promise<SignedIn>;
   /** A credential signs in no more; whether it did until now. With `user` one of another account is left as it is. The open registrations
    *  of its account end. */
   retire(id: Uint8Array, user?: Uint8Array | null): Promise<boolean>;
-  /** A credential is forgotten, and its id may be registered again; whether it was there. The open sessions of its account end. `user` is as
-   *  in `retire`. */
+  /** An account's credentials sign in no more, and its open registrations end; how many did until now. */
+  retireAll(user: Uint8Array): Promise<number>;
+  /** A credential is forgotten, and its id may be registered again; whether it was there. The open registrations of its account end. `user` is
+   *  as in `retire`. */
   delete(id: Uint8Array, user?: Uint8Array | null): Promise<boolean>;
   /** All credentials of an account are forgotten, and its open sessions end; how many they were. */
-  deleteAccount(user: Uint8Array): Promise<number>;
+  erase(user: Uint8Array): Promise<number>;
   /** A session ends; whether it was open. */
-  abandon(session: string): Promise<boolean>;
+  abandon(session: string | null): Promise<boolean>;
   /** The credentials of a user, or all, by the second of their registration. A row that is damaged is left out, and logged. */
-  rows(user?: Uint8Array | null): Promise<Credential[]>;
+  rows(user?: Uint8Array | null): Promise<KeptCredential[]>;
 }

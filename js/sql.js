@@ -1,14 +1,15 @@
 // A relying party whose sessions and credentials are rows of PostgreSQL, for sites of several machines. Each call is one transaction,
 // by the rules for rows of docs/OPERATING.md. Python's `garvoeng.sql` has the same tables.
 import { randomBytes } from "node:crypto";
-import { logTo } from "./errors.js";
+import { SessionDamaged, logTo, ofSession } from "./errors.js";
 import { toText } from "./forms.js";
 import {
-  BadInput, MAX_LIST, Refused, RegistrationSession, RowDamaged, SignInSession, StoreFailed, coseKeyOf, credentialFromCose,
+  BadInput, KeptCredential, Refused, RegistrationSession, RowDamaged, SignInSession, StoreFailed, coseKeyOf, credentialFromCose,
 } from "./index.js";
-import { checkBytes, checkCredential, checkFunction, checkIds, checkUser, checkWhole, optionsIn, shown } from "./limits.js";
+import { LIFETIME, isNumber, now } from "./keeping.js";
+import { allowed, checkCredential, checkFunction, checkId, checkIds, checkSession, checkUser, checkWhole, fitting, optionsIn } from "./limits.js";
 import { registrationOptionsIn, signInOptionsIn } from "./options.js";
-import { ofRow } from "./records.js";
+import { ofRow, openIn } from "./records.js";
 
 const VERSION = 1;
 const TABLES = [
@@ -24,34 +25,24 @@ const TABLES = [
 // Sessions that have ended go at a begin, so many at a time, and no begin waits for another's.
 const EXPIRED = `delete from garvoeng_session where id in (
   select id from garvoeng_session where expires_at <= $1 limit 100 for update skip locked)`;
-const COLUMNS = "id, user_handle, public_key, sign_count, backup_eligible, retired, transports";
+const COLUMNS = "id, user_handle, public_key, sign_count, backup_eligible, retired, transports, backed_up, aaguid, created_at, used_at";
 
-const isDefined = (value) => value !== null && value !== undefined;
 const flagOf = (value) => (value === null ? null : Number(value));
+const isTrue = (value) => (value === null ? null : value !== 0);
+const timeOf = (value) => (value === null ? null : Number(value));
 
-const isSessionId = (session) => typeof session === "string" && /^[0-9a-f]{32}$/.test(session);
+// The number of a session, or null where a text is none.
+const numberOf = (session) => (isNumber(checkSession(session)) ? session : null);
 
-function sessionId(value) {
-  if (!isSessionId(value)) throw new BadInput(`the session is ${shown(value)}: write the text of 32 hex digits that the begin gave`);
-  return value;
-}
+// The member that only a session of one kind has; the last are those of a sign-in which Python keeps, and of a session that is bound to one.
+const KINDS = ["algorithms", "allow", "signed_in", "sign_in"];
 
-// The session that a visitor hands back; none where it is another text than a begin gives.
-function handedBack(session) {
-  return !isDefined(session) || (typeof session === "string" && !isSessionId(session)) ? null : sessionId(session);
-}
-
-function now() {
-  return Math.floor(Date.now() / 1000);
-}
-
-// What a session's row holds; one that no site writes is the database's failure, and not the visitor's.
-function ofSession(make) {
+// What a session's row says; of one that is damaged nothing.
+function sessionIn(data) {
   try {
-    return make();
-  } catch (error) {
-    if (!(error instanceof BadInput || error instanceof SyntaxError)) throw error;
-    throw new StoreFailed(`the row of a session is not one that a site writes: ${error.message}`, { cause: error });
+    return Object(JSON.parse(data));
+  } catch {
+    return {};
   }
 }
 
@@ -59,14 +50,14 @@ function ofSession(make) {
 function credentialOf(row) {
   return ofRow(new Uint8Array(row.id), () => {
     const credential = credentialFromCose({
-      id: row.id, user: row.user_handle, coseKey: row.public_key, signCount: Number(row.sign_count),
-      eligible: row.backup_eligible === null ? null : row.backup_eligible !== 0, retired: row.retired !== 0,
-      transports: row.transports.split(",").filter((one) => one !== ""),
+      id: row.id, user: row.user_handle, coseKey: row.public_key, signCount: Number(row.sign_count), eligible: isTrue(row.backup_eligible),
+      retired: row.retired !== 0, transports: row.transports.split(",").filter((one) => one !== ""),
     });
     checkCredential(credential);
     checkUser(credential.user);
     checkIds([credential]);
-    return credential;
+    return new KeptCredential({ ...credential, aaguid: row.aaguid === null ? null : new Uint8Array(row.aaguid), backedUp: isTrue(row.backed_up),
+                                createdAt: timeOf(row.created_at), usedAt: timeOf(row.used_at) });
   });
 }
 
@@ -79,7 +70,7 @@ export class SqlServer {
   #prepared = null;
 
   constructor(server, pool, options) {
-    const { lifetime = 300, logger = console.error } = optionsIn(options, "SqlServer", ["lifetime", "logger"]);
+    const { lifetime = LIFETIME, logger = console.error } = optionsIn(options, "SqlServer", ["lifetime", "logger"]);
     if (typeof server?.relatedOrigins !== "function") throw new BadInput("a SqlServer is over a Server: write new SqlServer(new Server(..), pool)");
     if (typeof pool?.connect !== "function") throw new BadInput("a SqlServer is over a pool of pg: write new SqlServer(new Server(..), new Pool(..))");
     this.#server = server;
@@ -163,8 +154,8 @@ export class SqlServer {
     return this.#listed(rows);
   }
 
-  // Ends the open sessions of an account. Sessions go before credentials, in the order in which a sign-in takes them.
-  async #endSessions(run, user, isOfAll) {
+  // Ends the open registrations of an account, or all that it has open. Sessions go before credentials, in the order in which a sign-in takes them.
+  async #endSessions(run, user, isOfAll = false) {
     const named = toText(user), forms = [`"user":"${named}"`, `"user": "${named}"`];
     await run("delete from garvoeng_session where (strpos(data, $1) > 0 or strpos(data, $2) > 0) and ($3 or strpos(data, '\"algorithms\"') > 0)", ...forms, isOfAll);
   }
@@ -177,25 +168,30 @@ export class SqlServer {
 
   // The open session of this id, whose row goes with the transaction's commit; null where there is none of this kind.
   async #taken(run, session, kind, member) {
-    if (!isDefined(session)) return null;
+    if (session === null) return null;
     const { rows } = await run("delete from garvoeng_session where id = $1 and expires_at > $2 returning data", session, now());
     if (rows.length === 0) return null;
-    return ofSession(() => {
-      const kept = JSON.parse(rows[0].data);
-      return kept?.[member] === undefined ? null : kind.from(kept);
-    });
+    try {
+      return ofSession(session, () => {
+        const kept = sessionIn(rows[0].data);
+        return KINDS.some((one) => one !== member && Object.hasOwn(kept, one)) ? null : openIn(kind, kept);
+      });
+    } catch (error) {
+      if (error instanceof SessionDamaged) logTo(this.#logger, error);
+      throw error;
+    }
   }
 
   async registerBegin(user, userName, options) {
     const { exclude, ...how } = registrationOptionsIn(options);
     return this.#call(async (run) => {
-      const listed = exclude ?? (await this.#ofAccount(run, user)).slice(0, MAX_LIST);
+      const listed = exclude ?? fitting(await this.#ofAccount(run, user));
       return this.#begun(run, this.#server.registerBegin(user, userName, { ...how, exclude: listed }));
     });
   }
 
   async registerComplete(session, response) {
-    const id = handedBack(session);
+    const id = numberOf(session);
     return this.#call(async (run) => {
       const begun = await this.#taken(run, id, RegistrationSession, "algorithms");
       const isRegistered = async (asked) => (await run("select 1 from garvoeng_credential where id = $1", asked)).rowCount > 0;
@@ -213,13 +209,12 @@ export class SqlServer {
     const { user = null, allow, ...how } = signInOptionsIn(options);
     return this.#call(async (run) => {
       const own = allow === undefined && user !== null ? await this.#ofAccount(run, user) : [];
-      const listed = allow ?? (own.length <= MAX_LIST ? own : []);
-      return this.#begun(run, this.#server.authenticateBegin({ ...how, user, allow: listed }));
+      return this.#begun(run, this.#server.authenticateBegin({ ...how, user, allow: allow ?? allowed(own) }));
     });
   }
 
   async authenticateComplete(session, response) {
-    const id = handedBack(session);
+    const id = numberOf(session);
     return this.#call(async (run) => {
       const begun = await this.#taken(run, id, SignInSession, "allow");
       // Of two sign-ins of one credential the second is judged by what the first left.
@@ -227,41 +222,50 @@ export class SqlServer {
         const { rows } = await run(`select ${COLUMNS} from garvoeng_credential where id = $1 for update`, asked);
         return rows.length === 0 ? null : credentialOf(rows[0]);
       };
-      const { credential, before, ...told } = await this.#server.authenticateComplete(begun, response, { credential: find });
+      const signedIn = await this.#server.authenticateComplete(begun, response, { credential: find }), { credential, before, backedUp } = signedIn;
       const written = await run(
         `update garvoeng_credential set sign_count = $1, backup_eligible = $2, backed_up = $3, used_at = $4
          where id = $5 and sign_count = $6 and retired = 0`,
-        credential.signCount, flagOf(credential.eligible), flagOf(told.backedUp), now(), credential.id, before.signCount);
+        credential.signCount, flagOf(credential.eligible), flagOf(backedUp), now(), credential.id, before.signCount);
       if (written.rowCount !== 1) throw new Refused(false, 15, "another sign-in of this credential was accepted meanwhile");
-      return Object.freeze({ id: credential.id, user: credential.user, signCount: credential.signCount, ...told });
+      return signedIn.stored();
     });
   }
 
   // Makes a change to the credential of an id, and of an account if one is named; whether there was something to change.
-  async #changed(id, user, isOfAll, statement) {
-    const asked = [checkBytes(id, "id"), user === null ? null : checkBytes(user, "user")];
+  async #changed(id, user, statement) {
+    const asked = [checkId(id), user === null ? null : checkUser(user)];
     return this.#call(async (run) => {
       const account = await this.#accountOf(run, ...asked);
       if (account === null) return false;
-      await this.#endSessions(run, account, isOfAll);
+      await this.#endSessions(run, account);
       return (await run(statement, asked[0], account)).rowCount === 1;
     });
   }
 
   async retire(id, user = null) {
-    return this.#changed(id, user, false, "update garvoeng_credential set retired = 1 where id = $1 and user_handle = $2 and retired = 0");
+    return this.#changed(id, user, "update garvoeng_credential set retired = 1 where id = $1 and user_handle = $2 and retired = 0");
   }
 
   async delete(id, user = null) {
-    return this.#changed(id, user, true, "delete from garvoeng_credential where id = $1 and user_handle = $2");
+    return this.#changed(id, user, "delete from garvoeng_credential where id = $1 and user_handle = $2");
   }
 
-  async deleteAccount(user) {
+  // Makes a change to all credentials of an account: how many were changed.
+  async #changedAll(user, isOfAll, statement) {
     const account = checkUser(user);
     return this.#call(async (run) => {
-      await this.#endSessions(run, account, true);
-      return (await run("delete from garvoeng_credential where user_handle = $1", account)).rowCount;
+      await this.#endSessions(run, account, isOfAll);
+      return (await run(statement, account)).rowCount;
     });
+  }
+
+  async retireAll(user) {
+    return this.#changedAll(user, false, "update garvoeng_credential set retired = 1 where user_handle = $1 and retired = 0");
+  }
+
+  async erase(user) {
+    return this.#changedAll(user, true, "delete from garvoeng_credential where user_handle = $1");
   }
 
   // A sign-in that ended stands among the sessions, by a name that no session has, until it would have ended by itself.
@@ -275,12 +279,12 @@ export class SqlServer {
   }
 
   async abandon(session) {
-    const id = sessionId(session), deleted = await this.#call((run) => run("delete from garvoeng_session where id = $1 and expires_at > $2", id, now()));
-    return deleted.rowCount === 1;
+    const id = numberOf(session);
+    return id !== null && (await this.#call((run) => run("delete from garvoeng_session where id = $1 and expires_at > $2", id, now()))).rowCount === 1;
   }
 
   async rows(user = null) {
-    const where = user === null ? "" : "where user_handle = $1", values = user === null ? [] : [checkBytes(user, "user")];
+    const where = user === null ? "" : "where user_handle = $1", values = user === null ? [] : [checkUser(user)];
     const { rows } = await this.#call((run) => run(`select ${COLUMNS} from garvoeng_credential ${where} order by created_at, id`, ...values));
     return this.#listed(rows);
   }

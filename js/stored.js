@@ -4,19 +4,21 @@ import cluster from "node:cluster";
 import { BadInput, Refused, StoreFailed } from "./errors.js";
 import { REGISTRATION_MEMBERS, SIGN_IN_MEMBERS, fromText, handedOn, sealed, toText, transportsOf } from "./forms.js";
 import {
-  ALGORITHMS, MAX_LIST, MAX_STRICT_LIST, checkAlgorithms, checkBytes, checkFlag, checkFunction, checkIds, checkOneOf, checkParty, checkUser, checkWhole, fitting,
+  ALGORITHMS, MAX_LIST, MAX_STRICT_LIST, allowed, checkAlgorithms, checkFlag, checkFunction, checkId, checkIds, checkOneOf, checkParty, checkSession, checkUser, checkWhole, fitting,
   ownOf, shown, transportsIn,
 } from "./limits.js";
 import { isValid } from "./node_signatures.js";
-import { checkUserVerification, creationOptions, partyOptionsIn, registrationOptionsIn, requestOptions, signInOptionsIn } from "./options.js";
+import { creationOptions, partyOptionsIn, registrationOptionsIn, requestOptions, residentKeyOf, signInOptionsIn, userVerificationOf } from "./options.js";
 import { Program } from "./program.js";
-import { Credential } from "./records.js";
+import { Credential, KeptCredential, Registered, SignedIn } from "./records.js";
 import { Shared } from "./signouts.js";
 import { ProgramOfPrimary, serveWorkers } from "./workers.js";
 
 const LOGS = [false, true, "refusals", "all"];
 
-const OWN = ["maxCredentials", "isExisting", "atLeast", "wary", "log", "expire", "timeout", "logger"];
+const OWN = ["maxCredentials", "existing", "atLeast", "wary", "log", "lifetime", "timeout", "logger"];
+// The flag BE: a sign-in whose flag is another than the row's is refused by W16.
+const ELIGIBLE = 0x08;
 
 function textOf(value, what) {
   if (typeof value !== "string" || value === "" || value.includes("\0")) throw new BadInput(`${what} is ${shown(value)}: write a text`);
@@ -28,15 +30,15 @@ function numbered(option, value, what, least) {
 }
 
 function wordsOf(program, file, rpId, origins, how) {
-  const { rpName, acceptNone, acceptSelf, profile, topOrigins, maxCredentials, isExisting = false, atLeast, wary = false, log = false, expire } = how;
+  const { rpName, acceptNone, acceptSelf, profile, topOrigins, maxCredentials, existing = false, atLeast, wary = false, log = false, lifetime } = how;
   if (!acceptNone && !acceptSelf) throw new BadInput("acceptNone and acceptSelf are both false: then no attestation is accepted");
   checkOneOf(log, "log", LOGS);
   return [
     textOf(program, "the program's path"), `--rp-id=${rpId}`, `--rp-name=${textOf(rpName, "rpName")}`, ...origins.map((origin) => `--origin=${origin}`),
     ...topOrigins.map((origin) => `--top-origin=${origin}`), `--profile=${profile}`, `--attestation=${acceptNone && acceptSelf ? "any" : acceptNone ? "none" : "self"}`,
     ...numbered("max-credentials", maxCredentials, "maxCredentials", 1),
-    ...(checkFlag(isExisting, "isExisting") ? ["--existing"] : []), ...numbered("at-least", atLeast, "atLeast", 0), ...(checkFlag(wary, "wary") ? ["--wary"] : []),
-    ...(log === false ? [] : [`--log=${log === true ? "refusals" : log}`]), ...numbered("expire", expire, "expire", 1), "--", textOf(file, "the file's path"),
+    ...(checkFlag(existing, "existing") ? ["--existing"] : []), ...numbered("at-least", atLeast, "atLeast", 0), ...(checkFlag(wary, "wary") ? ["--wary"] : []),
+    ...(log === false ? [] : [`--log=${log === true ? "refusals" : log}`]), ...numbered("expire", lifetime, "lifetime", 1), "--", textOf(file, "the file's path"),
   ];
 }
 
@@ -57,9 +59,8 @@ function partsOf(row) {
 
 // A credential of the file, and what is known of it.
 function keptOf(row) {
-  const credential = new Credential({ ...partsOf(row), transports: row.transports });
-  const known = { aaguid: row.aaguid === null ? null : fromText(row.aaguid, "aaguid"), createdAt: row.created_at, usedAt: row.used_at };
-  return Object.freeze(Object.assign(Object.create(Credential.prototype), credential, known));
+  return new KeptCredential({ ...partsOf(row), transports: row.transports, aaguid: row.aaguid === null ? null : fromText(row.aaguid, "aaguid"),
+                              createdAt: row.created_at, usedAt: row.used_at });
 }
 
 // The credentials of a list, with the transports that the file has of those that have none.
@@ -114,18 +115,21 @@ export class StoredServer {
     return this.#known;
   }
 
-  // What was accepted. The program tells the signature that is asked for; where it is valid it is handed back, and else the program
-  // is told that it is not, so that its log has the refusal.
+  // What was accepted, and what was verified for it. The program tells the signature that is asked for; where it is valid it is handed
+  // back, and else the program is told that it is not, so that its log has the refusal.
   async #finish(act, session, response, more = {}) {
     const members = { session: sealed(session), response, ...more };
-    let answer = await this.#ask(act, members);
+    let answer = await this.#ask(act, members), asked = null;
     if (answer.verify !== undefined) {
-      const asked = answer.verify, valid = await this.verify(asked.algorithm, ...bytesOf(asked, "x", "y", "message", "signature"));
+      asked = answer.verify;
+      const valid = await this.verify(asked.algorithm, ...bytesOf(asked, "x", "y", "message", "signature"));
       answer = await this.#ask(act, { ...members, verified: valid === true ? asked : false });
     }
     if (answer.refused !== undefined) throw new Refused(act === "finish_registration", answer.refused.number, answer.refused.text);
-    if (answer.accepted === undefined) throw new StoreFailed("the program answered what is no verdict");
-    return answer.accepted;
+    // A sign-in is accepted for a signature that was verified here, and for nothing else.
+    if (typeof answer.accepted !== "object" || answer.accepted === null || (asked === null && act === "finish_sign_in"))
+      throw new StoreFailed("the program answered what is no verdict");
+    return { accepted: answer.accepted, asked };
   }
 
   // The credentials of an account that sign in.
@@ -134,11 +138,12 @@ export class StoredServer {
   }
 
   async registerBegin(user, userName, options) {
-    const { exclude, algorithms = ALGORITHMS, userVerification = "preferred", residentKey = "required", attestation = "none", conditional = false, ...how } =
+    const { exclude, algorithms = ALGORITHMS, userVerification: verified = "preferred", residentKey: resident = "required", attestation = "none", conditional = false, ...how } =
       registrationOptionsIn(options);
+    const userVerification = userVerificationOf(verified), residentKey = residentKeyOf(resident);
     const begun = { user: checkUser(user), algorithms: checkAlgorithms(algorithms) };
     const optionsOf = (challenge, list) => creationOptions({ id: this.rpId, name: this.rpName }, { ...begun, challenge }, userName, list,
-                                                     { ...how, userVerification: checkUserVerification(userVerification), residentKey, attestation });
+                                                     { ...how, userVerification, residentKey, attestation });
     optionsOf(new Uint8Array(0), checkIds(exclude ?? [], this.#mostListed));
     checkFlag(conditional, "conditional");
     const listed = checkIds(exclude ?? fitting(await this.#ofAccount(begun.user), this.#mostListed), this.#mostListed);
@@ -151,18 +156,19 @@ export class StoredServer {
   }
 
   async registerComplete(session, response) {
-    const handed = handedOn(response, REGISTRATION_MEMBERS), transports = transportsIn(transportsOf(response));
-    const made = await this.#finish("finish_registration", session, handed, { transports });
-    const [aaguid] = bytesOf(made, "aaguid");
-    return Object.freeze({ credential: new Credential({ ...partsOf(made), transports }), aaguid, format: made.format, ...toldOf(made) });
+    const text = checkSession(session), handed = handedOn(response, REGISTRATION_MEMBERS), transports = transportsIn(transportsOf(response));
+    const { accepted } = await this.#finish("finish_registration", text, handed, { transports });
+    const [aaguid] = bytesOf(accepted, "aaguid");
+    return new Registered({ credential: new Credential({ ...partsOf(accepted), transports }), aaguid, format: accepted.format, ...toldOf(accepted) });
   }
 
   async authenticateBegin(options) {
-    const { user = null, allow, userVerification = "preferred", ...how } = signInOptionsIn(options), handle = user === null ? null : checkUser(user);
-    const optionsOf = (challenge, list) => requestOptions(this.rpId, { challenge }, list, checkUserVerification(userVerification), how);
+    const { user = null, allow, userVerification: verified = "preferred", ...how } = signInOptionsIn(options), handle = user === null ? null : checkUser(user);
+    const userVerification = userVerificationOf(verified);
+    const optionsOf = (challenge, list) => requestOptions(this.rpId, { challenge }, list, userVerification, how);
     optionsOf(new Uint8Array(0), checkIds(allow ?? [], this.#mostListed));
     const own = allow === undefined && handle !== null ? await this.#ofAccount(handle) : [];
-    const listed = checkIds(allow ?? (fitting(own, this.#mostListed).length === own.length ? own : []), this.#mostListed);
+    const listed = checkIds(allow ?? allowed(own, this.#mostListed), this.#mostListed);
     const { session, options: made } = await this.#ask("begin_sign_in", {
       user: handle === null ? undefined : toText(handle), allow: listed.map(({ id }) => toText(id)),
       user_verification: userVerification === "required",
@@ -171,14 +177,19 @@ export class StoredServer {
   }
 
   async authenticateComplete(session, response) {
-    const who = await this.#finish("finish_sign_in", session, handedOn(response, SIGN_IN_MEMBERS, ["userHandle"]));
-    const [id, user] = bytesOf(who, "credential", "user");
-    return Object.freeze({ id, user, signCount: who.sign_count, ...toldOf(who) });
+    const text = checkSession(session);
+    const { accepted, asked } = await this.#finish("finish_sign_in", text, handedOn(response, SIGN_IN_MEMBERS, ["userHandle"]));
+    const [id, user] = bytesOf(accepted, "credential", "user"), [x, y] = bytesOf(asked, "x", "y"), told = toldOf(accepted);
+    // Where the credential was deleted meanwhile its transports are gone.
+    const row = (await this.rows(user)).find((one) => toText(one.id) === accepted.credential);
+    const credential = new Credential({ id, user, algorithm: asked.algorithm, x, y, signCount: accepted.sign_count, eligible: (told.flags & ELIGIBLE) !== 0,
+                                        transports: row?.transports ?? [] });
+    return new SignedIn({ credential, before: null, ...told });
   }
 
   // What an act on a credential answers. Where an account is named the credential has to be its own.
   async #changed(act, id, user) {
-    const credential = toText(checkBytes(id, "id"));
+    const credential = toText(checkId(id));
     if (user !== null && !(await this.rows(user)).some((row) => toText(row.id) === credential)) return {};
     return this.#ask(act, { credential });
   }
@@ -199,16 +210,12 @@ export class StoredServer {
     return (await this.#ask("erase", { user: toText(checkUser(user)) })).erased;
   }
 
-  async deleteAccount(user) {
-    return this.erase(user);
-  }
-
   async abandon(session) {
-    return (await this.#ask("abandon", { session: sealed(session) })).abandoned;
+    return (await this.#ask("abandon", { session: sealed(checkSession(session)) })).abandoned;
   }
 
   async rows(user = null) {
-    const { rows } = await this.#ask("rows", user === null ? {} : { user: toText(checkBytes(user, "user")) });
+    const { rows } = await this.#ask("rows", user === null ? {} : { user: toText(checkUser(user)) });
     if (!Array.isArray(rows)) throw new StoreFailed("the program answered what is no list of rows");
     return rows.map(keptOf);
   }

@@ -1,6 +1,6 @@
 // The calls of c/passkey.h: each judges one response by what it is handed.
 import { BadInput, NoMemory, Refused } from "./errors.js";
-import { EDDSA, ES256, RS256 } from "./limits.js";
+import { EDDSA, ES256, FORMATS, RS256 } from "./limits.js";
 import {
   ASSERTION_CALL, ASSERTION_OUT, ASSERTION_RESPONSE, CREDENTIAL, KEY, KEY_OUT, PARTY, REGISTRATION_CALL, REGISTRATION_OUT,
   REGISTRATION_RESPONSE, REGISTRATION_SESSION, SIGNATURE_CALL, SIGNATURE_OUT, SIGN_IN_SESSION, VERIFIED,
@@ -18,7 +18,6 @@ const NO_MEMORY = 127;
 const MOST_OF_A_TEXT = 128;
 const MOST_OF_A_COSE_KEY = 13 + 512 + 4;
 
-const FORMATS = ["none", "packed"];
 
 function party(image, at, { rpId, origins, profile, topOrigins }) {
   image.lend(at + PARTY.rp_id, rpId);

@@ -13,7 +13,8 @@ export const RS256: -257;
 export const MAX_LIST: 64;
 
 export type Awaitable<T> = T | Promise<T>;
-export type Requirement = "required" | "preferred" | "discouraged";
+/** `true` is `required`; `false` is `preferred` of a verification, and `discouraged` of `residentKey`. */
+export type Requirement = boolean | "required" | "preferred" | "discouraged";
 
 /** What a registration that has begun expects. It answers one response; the site deletes it then. */
 export class RegistrationSession {
@@ -31,7 +32,7 @@ export class RegistrationSession {
   readonly attestation: boolean;
   toJSON(): object;
   /** The session of what `toJSON` gave, or of its text. Throws `BadInput`. */
-  static from(json: unknown): RegistrationSession;
+  static fromJSON(json: unknown): RegistrationSession;
 }
 
 /** What a sign-in that has begun expects. It answers one response; the site deletes it then. */
@@ -46,7 +47,7 @@ export class SignInSession {
   readonly userVerification: boolean;
   toJSON(): object;
   /** The session of what `toJSON` gave, or of its text. Throws `BadInput`. */
-  static from(json: unknown): SignInSession;
+  static fromJSON(json: unknown): SignInSession;
 }
 
 export interface CredentialMembers {
@@ -81,6 +82,32 @@ export class Credential implements CredentialMembers {
   readonly eligible: boolean | null;
   readonly retired: boolean;
   readonly transports: readonly string[];
+  /** Values of JSON, bytes in base64url: those of Python's `to_json`. */
+  toJSON(): object;
+  /** The credential of what `toJSON` gave, or of its text. Members of other names are passed over. Throws `BadInput`. */
+  static fromJSON(json: unknown): Credential;
+}
+
+export interface KeptMembers extends CredentialMembers {
+  /** The kind of the authenticator, by its own word: 16 bytes. */
+  readonly aaguid?: Uint8Array | null;
+  /** Whether it was backed up at the last sign-in (BS); the file of `StoredServer` does not have it. */
+  readonly backedUp?: boolean | null;
+  /** When it was registered: seconds since 1970. */
+  readonly createdAt?: number | null;
+  /** When it signed in last: seconds since 1970; null where it never did. */
+  readonly usedAt?: number | null;
+}
+
+/** A credential's row, and what is known of it. What was never kept is null. */
+export class KeptCredential extends Credential {
+  constructor(members: KeptMembers);
+  readonly aaguid: Uint8Array | null;
+  readonly backedUp: boolean | null;
+  readonly createdAt: number | null;
+  readonly usedAt: number | null;
+  /** The row of what `toJSON` gave, or of its text. Throws `BadInput`, also of a `Credential` alone. */
+  static fromJSON(json: unknown): KeptCredential;
 }
 
 export interface Told {
@@ -95,22 +122,38 @@ export interface Told {
 }
 
 /** A registration that was accepted. */
-export interface Registered extends Told {
+export class Registered implements Told {
+  constructor(members: Told & Pick<Registered, "credential" | "aaguid" | "format">);
+  readonly backedUp: boolean;
+  readonly userVerified: boolean;
+  readonly flags: number;
+  readonly extensions: Uint8Array;
   /** To be stored. */
   readonly credential: Credential;
   /** The kind of the authenticator, by its own word: 16 bytes. */
   readonly aaguid: Uint8Array;
   /** How the credential is attested: not at all, or by a signature of its own key. */
   readonly format: "none" | "packed";
+  toJSON(): object;
+  /** The registration of what `toJSON` gave, or of its text. Throws `BadInput`, also of a sign-in. */
+  static fromJSON(json: unknown): Registered;
 }
 
 /** A sign-in that was accepted. */
-export interface SignedIn extends Told {
-  /** The credential as it is to be stored from now on. */
+export class SignedIn implements Told {
+  constructor(members: Told & Pick<SignedIn, "credential" | "before">);
+  readonly backedUp: boolean;
+  readonly userVerified: boolean;
+  readonly flags: number;
+  readonly extensions: Uint8Array;
+  /** The credential with the counter that was received: of `Server` as it is to be stored from now on, of the others as it is stored. */
   readonly credential: Credential;
-  /** The credential that the verdict was given for. Store the new one only where the stored one still has this counter and is not
-   *  retired, in one transaction with the end of the session. */
-  readonly before: Credential;
+  /** Of `Server` the credential that the verdict was given for. Store the new one only where the stored one still has this counter and is
+   *  not retired, in one transaction with the end of the session. Null of a server that has done so. */
+  readonly before: Credential | null;
+  toJSON(): object;
+  /** The sign-in of what `toJSON` gave, or of its text. Throws `BadInput`, also of a registration. */
+  static fromJSON(json: unknown): SignedIn;
 }
 
 /** The ids of a list, or values that have them. */
@@ -175,7 +218,7 @@ export class Server {
   /** The options for the page, PublicKeyCredentialCreationOptionsJSON, and the session that the site keeps. `user` is the user
    *  handle: 1 to 64 bytes that name nobody. */
   registerBegin(user: Uint8Array, userName: string, options?: RegistrationOptions): { options: object; session: RegistrationSession };
-  /** What a RegistrationResponseJSON registers. `session` is null where none is open. `isRegistered(id)` tells, by true or false, whether
+  /** What a RegistrationResponseJSON registers. `session` is null where none is open; a text counts as null. `isRegistered(id)` tells, by true or false, whether
    *  a credential has the id, to anyone, retired or not. Rejected by `Refused`, `BadInput` or `NoMemory`. */
   registerComplete(session: RegistrationSession | null, response: unknown,
                    how: { isRegistered: (id: Uint8Array) => Awaitable<boolean>; isFull?: boolean }): Promise<Registered>;
@@ -204,6 +247,122 @@ export class Server {
   signalAllAccepted(user: Uint8Array, credentials: Ids): { rpId: string; userId: string; allAcceptedCredentialIds: string[] };
   /** What the page hands to `signalCurrentUserDetails` where an account's names changed. */
   signalUserDetails(user: Uint8Array, userName: string, displayName?: string): { rpId: string; userId: string; name: string; displayName: string };
+}
+
+/** Which sign-ins of `garvoeng/http` ended before their time. `number` is a text of 32 hex digits; times are milliseconds since 1970. */
+export interface SignOuts {
+  /** A sign-in has ended; this is to be known up to `until`. */
+  add(number: string, until: number): Awaitable<void>;
+  /** Whether a sign-in, which was accepted `at` that time, has ended: true or false. */
+  has(number: string, at: number): Awaitable<boolean>;
+}
+
+/** What `KeepingServer`, `SqlServer` and `StoredServer` have in common. A site that is written for it changes its storage by the line that
+ *  makes the server. `session` is a text that only its visitor may have, or null: of another text none is open, and another kind of value is
+ *  `BadInput`. Each call may be rejected by `StoreFailed`; of a damaged row by `RowDamaged` or `SessionDamaged`. */
+export interface PasskeyServer {
+  readonly origins: readonly string[];
+  readonly signOuts: SignOuts;
+  /** As that of `Server`. Without `exclude` the account's own credentials are excluded, the first that there is room for. */
+  registerBegin(user: Uint8Array, userName: string, options?: RegistrationOptions): Promise<{ options: object; session: string }>;
+  /** What a RegistrationResponseJSON registers. It is stored, and the session closed. Rejected by `Refused`, `BadInput` or `NoMemory`. */
+  registerComplete(session: string | null, response: unknown): Promise<Registered>;
+  /** As that of `Server`. With `user` and without `allow` the account's own credentials are listed; where they are too many, any of them that
+   *  the browser finds may answer. */
+  authenticateBegin(options?: SignInOptions): Promise<{ options: object; session: string }>;
+  /** Who signed in, of an AuthenticationResponseJSON. The counter is stored, and the session closed. Rejected as `registerComplete`. */
+  authenticateComplete(session: string | null, response: unknown): Promise<SignedIn>;
+  /** The credentials of a user, or all, retired ones too, in order of registration. */
+  rows(user?: Uint8Array | null): Promise<KeptCredential[]>;
+  /** A credential signs in no more, and its id stays taken; whether it did until now. Its account's open registrations end. With `user` one of
+   *  another account is left as it is. */
+  retire(id: Uint8Array, user?: Uint8Array | null): Promise<boolean>;
+  /** An account's credentials sign in no more, and its open registrations end; how many did until now. */
+  retireAll(user: Uint8Array): Promise<number>;
+  /** A credential is forgotten, and its id may be registered again, by anybody; whether it was there. Its account's open registrations end.
+   *  `user` is as in `retire`. */
+  delete(id: Uint8Array, user?: Uint8Array | null): Promise<boolean>;
+  /** An account's credentials are forgotten, and its open registrations end; how many they were. */
+  erase(user: Uint8Array): Promise<number>;
+  /** A session ends; whether it was open. */
+  abandon(session: string | null): Promise<boolean>;
+}
+
+/** A session as a `Store` has it. */
+export interface OpenSession {
+  /** 32 hexadecimal digits, which only its visitor has. */
+  readonly number: string;
+  readonly kind: "registration" | "sign_in" | "sign_out";
+  /** The user handle, where the account is known. */
+  readonly user: Uint8Array | null;
+  /** A text that `session` gives back as it is. */
+  readonly data: string;
+  /** Seconds since 1970. The server passes over a session that has ended; the store may delete it. */
+  readonly endsAt: number;
+}
+
+/** A storage of a site's own: rows of an ORM, of a database, of a file. Each call is one change, whole or not at all, whoever calls at the same
+ *  time: in a database one transaction. Rows that the site has of its own may be written in the same transaction. */
+export interface Store {
+  /** Adds a session. */
+  begin(session: OpenSession): Awaitable<void>;
+  /** The session of this number, or null. */
+  session(number: string): Awaitable<OpenSession | null | undefined>;
+  /** Deletes the session and adds the row: 0. Where the session is not there 1, and where a row has the id, of anyone, retired or not, 15;
+   *  then nothing is changed. */
+  register(number: string, row: KeptCredential): Awaitable<0 | 1 | 15>;
+  /** Deletes the session and writes the row in the place of the one of its id: 0. Where the session is not there 1, and where that row is not
+   *  there, is retired, or has another `signCount` than this, 15; then nothing is changed. */
+  signIn(number: string, row: KeptCredential, signCount: number): Awaitable<0 | 1 | 15>;
+  /** Deletes a session; whether it was there. */
+  abandon(number: string): Awaitable<boolean>;
+  /** The row of this id, or null. It may have members of the site's own more. */
+  row(id: Uint8Array): Awaitable<KeptMembers | null | undefined>;
+  /** The rows of a user, or all, in order of registration. */
+  rows(user: Uint8Array | null): Awaitable<readonly KeptMembers[]>;
+  /** Makes `retired` of a row true, where it is not, and deletes the sessions of its user whose kind is `registration`; whether it was so.
+   *  With `user` a row of another one is left as it is. */
+  retire(id: Uint8Array, user: Uint8Array | null): Awaitable<boolean>;
+  /** The same of all rows of a user; how many were not retired. */
+  retireAll(user: Uint8Array): Awaitable<number>;
+  /** Deletes a row, and the sessions of its user whose kind is `registration`; whether it was there. `user` is as in `retire`. */
+  delete(id: Uint8Array, user: Uint8Array | null): Awaitable<boolean>;
+  /** Deletes all rows and all sessions of a user; how many rows. */
+  erase(user: Uint8Array): Awaitable<number>;
+}
+
+/** A `Store` in the memory of this process, which ends with it: for tests, and to be read by whoever writes one. */
+export class MemoryStore implements Store {
+  begin(session: OpenSession): void;
+  session(number: string): OpenSession | null;
+  register(number: string, row: KeptCredential): 0 | 1 | 15;
+  signIn(number: string, row: KeptCredential, signCount: number): 0 | 1 | 15;
+  abandon(number: string): boolean;
+  row(id: Uint8Array): KeptCredential | null;
+  rows(user: Uint8Array | null): KeptCredential[];
+  retire(id: Uint8Array, user: Uint8Array | null): boolean;
+  retireAll(user: Uint8Array): number;
+  delete(id: Uint8Array, user: Uint8Array | null): boolean;
+  erase(user: Uint8Array): number;
+}
+
+/** `Server` with its sessions and credentials in a `Store` of the site's own. What the store answers that is no answer is `StoreFailed`. */
+export class KeepingServer implements PasskeyServer {
+  /** `lifetime` is how many seconds a session stays open: 300. */
+  constructor(server: Server, store: Store, options?: { lifetime?: number });
+  readonly origins: readonly string[];
+  /** Among the sessions of the store, as those of the kind `sign_out`. */
+  readonly signOuts: SignOuts;
+  registerBegin(user: Uint8Array, userName: string, options?: RegistrationOptions): Promise<{ options: object; session: string }>;
+  registerComplete(session: string | null, response: unknown): Promise<Registered>;
+  authenticateBegin(options?: SignInOptions): Promise<{ options: object; session: string }>;
+  authenticateComplete(session: string | null, response: unknown): Promise<SignedIn>;
+  rows(user?: Uint8Array | null): Promise<KeptCredential[]>;
+  retire(id: Uint8Array, user?: Uint8Array | null): Promise<boolean>;
+  retireAll(user: Uint8Array): Promise<number>;
+  delete(id: Uint8Array, user?: Uint8Array | null): Promise<boolean>;
+  erase(user: Uint8Array): Promise<number>;
+  abandon(session: string | null): Promise<boolean>;
 }
 
 /** A response is refused at a step of section 7.1 or 7.2 of WebAuthn, the first that it does not pass. */
@@ -241,6 +400,21 @@ export class RowDamaged extends Error {
   readonly code: "GARVOENG_ROW_DAMAGED";
   /** The credential's id. */
   readonly id: Uint8Array;
+}
+
+/** The row of an open session is not one that a site writes. */
+export class SessionDamaged extends Error {
+  constructor(session: string, text: string, options?: { cause?: unknown });
+  readonly code: "GARVOENG_SESSION_DAMAGED";
+  /** The session's number. */
+  readonly session: string;
+}
+
+/** The program, the database or the store could not be reached, ended before it answered, or failed: what was asked is done or is not. The
+ *  next call tries anew. */
+export class StoreFailed extends Error {
+  constructor(text: string, options?: { cause?: unknown });
+  readonly code: "GARVOENG_STORE_FAILED";
 }
 
 /** Whether the bytes are one value of canonical CBOR (CTAP 2.1), and no more. */

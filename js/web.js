@@ -1,6 +1,7 @@
 // The package where there is no Node: signatures by WebCrypto. `load` comes before all else.
 import { isValid } from "./web_signatures.js";
 import { isBytes } from "./limits.js";
+import { keepingOver } from "./keeping.js";
 import { Module } from "./module.js";
 import { helpersOver, serverOver } from "./server.js";
 
@@ -28,8 +29,10 @@ function randomBytes(size) {
 }
 
 export const Server = serverOver(moduleOf, randomBytes, isValid);
+export const KeepingServer = keepingOver(randomBytes);
 export const { isCanonical, credentialFromCose, coseKeyOf } = helpersOver(moduleOf);
-export { BadInput, NoMemory, Refused, RowDamaged } from "./errors.js";
+export { BadInput, NoMemory, Refused, RowDamaged, SessionDamaged, StoreFailed } from "./errors.js";
 export { fromText, toText } from "./forms.js";
 export { EDDSA, ES256, MAX_LIST, RS256 } from "./limits.js";
-export { Credential, RegistrationSession, SignInSession } from "./records.js";
+export { MemoryStore } from "./memory.js";
+export { Credential, KeptCredential, Registered, RegistrationSession, SignInSession, SignedIn } from "./records.js";

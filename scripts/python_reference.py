@@ -6,8 +6,8 @@ from pathlib import Path
 
 HEAD = "<!-- ./dev pages writes this page from the sources. -->\n"
 MODULES = {
-    "garvoeng": ("server", "stored", "records", "errors", "library", "limits"),
-    "garvoeng.sql": ("sql",), "garvoeng.flask": ("flask",), "garvoeng.django": ("django/__init__", "django/backends", "django/models"),
+    "garvoeng": ("server", "keeping", "memory", "stored", "records", "errors", "library", "limits"),
+    "garvoeng.sql": ("sql", "sql_rows"), "garvoeng.flask": ("flask",), "garvoeng.django": ("django/__init__", "django/backends", "django/models"),
     "garvoeng.client": ("client", "client_program", "hid"), "garvoeng.explain": ("explain",), "garvoeng.forms": ("forms",), "garvoeng.move": ("move",), "garvoeng.signatures": ("signatures",),
 }
 

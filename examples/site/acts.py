@@ -4,10 +4,10 @@ from __future__ import annotations
 import os
 import secrets
 from pathlib import Path
-from typing import Any, Dict, List, Mapping, Optional, Tuple, Union
+from typing import Any, Dict, List, Mapping, Optional, Tuple
 
 from accounts import Accounts, Taken, connect_to
-from garvoeng import Credential, Server, SignedIn, StoredServer
+from garvoeng import Credential, PasskeyServer, Server, StoredServer
 from garvoeng.sql import SqlServer
 
 PROGRAM = os.environ.get("PROGRAM", str(Path(__file__).resolve().parents[2] / "dist" / "passkey-site"))
@@ -17,8 +17,8 @@ Session = Optional[str]
 
 
 class Acts:
-    def __init__(self, server: Union[SqlServer, StoredServer], accounts: Accounts) -> None:
-        self.server: Any = server
+    def __init__(self, server: PasskeyServer, accounts: Accounts) -> None:
+        self.server = server
         self.accounts = accounts
         self.rows = accounts.rows
         """What keeps who is signed in."""
@@ -44,9 +44,7 @@ class Acts:
         user = self.accounts.user_of(name)
         if user is not None and user != visitor:
             raise Taken("the name is another account's")
-        begun: Tuple[Dict[str, Any], Session] = self.server.register_begin(user or secrets.token_bytes(32), name,
-                                                                           user_verification=verified, resident=resident)
-        return begun
+        return self.server.register_begin(user or secrets.token_bytes(32), name, user_verification=verified, resident_key=resident)
 
     def register_finish(self, session: Session, name: str, response: Mapping[str, Any]) -> Tuple[bytes, bytes]:
         """The account's user handle and the passkey's id."""
@@ -61,15 +59,12 @@ class Acts:
         user = self.accounts.user_of(name) if name else None
         if name and user is None:
             return None
-        begun: Tuple[Dict[str, Any], Session] = self.server.authenticate_begin(user=user, user_verification=verified)
-        return begun
+        return self.server.authenticate_begin(user=user, user_verification=verified)
 
     def sign_in_finish(self, session: Session, response: Mapping[str, Any]) -> Tuple[bytes, bytes, int]:
         """The account's user handle, the passkey's id and its counter."""
-        said = self.server.authenticate_complete(session, response)
-        if isinstance(said, SignedIn):
-            return said.credential.user, said.credential.id, said.credential.sign_count
-        return said.user, said.credential, said.sign_count
+        said = self.server.authenticate_complete(session, response).credential
+        return said.user, said.id, said.sign_count
 
     def passkeys(self, user: bytes) -> List[Credential]:
         """The passkeys of a user, by their ids."""
@@ -79,9 +74,9 @@ class Acts:
         """Retires a passkey of this user; whether there is one of this id."""
         if id not in (row.id for row in self.server.rows(user)):
             return False
-        self.server.retire(id)
+        self.server.retire(id, user=user)
         if self.server is not self.rows:
-            self.rows.delete_account(user)
+            self.rows.erase(user)
         return True
 
 

@@ -26,13 +26,13 @@ async function verdictOf({ response, rp_id, origins, session, credential = null,
   try {
     const server = new garvoeng.Server(rp_id, origins, options);
     if (response.response.attestationObject !== undefined) {
-      const begun = session === null ? null : garvoeng.RegistrationSession.from(session);
+      const begun = session === null ? null : garvoeng.RegistrationSession.fromJSON(session);
       await server.registerComplete(begun, response, { isRegistered: () => registered, isFull: full });
     } else {
       const { spki_key } = credential ?? {}, row = credential === null ? null : spki_key !== undefined ? rowBySpki(credential) : new garvoeng.Credential({
         ...Object.fromEntries(["id", "user", "x", "y"].map((name) => [name, fromText(credential[name])])), algorithm: credential.algorithm,
         signCount: credential.sign_count, eligible: credential.eligible, retired: credential.retired });
-      await server.authenticateComplete(session === null ? null : garvoeng.SignInSession.from(session), response, { credential: () => row });
+      await server.authenticateComplete(session === null ? null : garvoeng.SignInSession.fromJSON(session), response, { credential: () => row });
     }
     return null;
   } catch (error) {

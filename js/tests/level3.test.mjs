@@ -101,14 +101,14 @@ test("parameters, and sessions in JSON", () => {
   for (const attestation of ["indirect", "direct", "enterprise"]) {
     const { options, session } = server.registerBegin(user, "name", { attestation, conditional: true });
     assert.deepEqual([options.attestation, session.attestation, session.conditional], [attestation, true, true]);
-    assert.deepEqual(RegistrationSession.from(JSON.stringify(session)), session);
+    assert.deepEqual(RegistrationSession.fromJSON(JSON.stringify(session)), session);
   }
   const { session } = server.registerBegin(user, "name"), { conditional, attestation, ...older } = session.toJSON();
   assert.deepEqual([conditional, attestation], [false, false]);
-  const read = RegistrationSession.from(older);
+  const read = RegistrationSession.fromJSON(older);
   assert.deepEqual([read.conditional, read.attestation], [false, true]);
   for (const name of ["conditional", "attestation"])
-    for (const bad of [null, 1, "true"]) assert.throws(() => RegistrationSession.from({ ...session.toJSON(), [name]: bad }), BadInput);
+    for (const bad of [null, 1, "true"]) assert.throws(() => RegistrationSession.fromJSON({ ...session.toJSON(), [name]: bad }), BadInput);
 });
 
 test("what browsers are told", () => {

@@ -38,7 +38,7 @@ test("flags are true or false alone", async () => {
   const rows = [
     ["acceptNone", (value) => new Server("example.com", origins, { acceptNone: value })], ["acceptSelf", (value) => new Server("example.com", origins, { acceptSelf: value })],
     ["acceptNone", (value) => new StoredServer("p", "f", "example.com", origins, { acceptNone: value })],
-    ["isExisting", (value) => new StoredServer("p", "f", "example.com", origins, { isExisting: value })], ["wary", (value) => new StoredServer("p", "f", "example.com", origins, { wary: value })],
+    ["existing", (value) => new StoredServer("p", "f", "example.com", origins, { existing: value })], ["wary", (value) => new StoredServer("p", "f", "example.com", origins, { wary: value })],
     ["conditional", (value) => server.registerBegin(user, "name", { conditional: value })], ["conditional", (value) => stored.registerBegin(user, "name", { conditional: value })],
     ["conditional", (value) => new RegistrationSession({ challenge, user, conditional: value })], ["attestation", (value) => new RegistrationSession({ challenge, user, attestation: value })],
     ["userVerification", (value) => new RegistrationSession({ challenge, user, userVerification: value })], ["userVerification", (value) => new SignInSession({ challenge, userVerification: value })],
@@ -83,7 +83,7 @@ test("functions are functions", async () => {
 test("an option that no call has is named", async () => {
   const { device, begun, session, options } = await visitor(), response = device.register(begun.options);
   const rows = [
-    ["topOrigin", (how) => new Server("example.com", origins, how)], ["existing", (how) => new StoredServer("p", "f", "example.com", origins, how)],
+    ["topOrigin", (how) => new Server("example.com", origins, how)], ["isExisting", (how) => new StoredServer("p", "f", "example.com", origins, how)],
     ["lifeTime", (how) => new SqlServer(server, pool, how)], ["secrets", (how) => passkeys(stored, { secret, ...how })],
     ["userVerfication", (how) => server.registerBegin(user, "name", how)], ["excludeCredentials", (how) => server.registerBegin(user, "name", how)],
     ["excludeCredentials", (how) => stored.registerBegin(user, "name", how)], ["excludeCredentials", (how) => sql.registerBegin(user, "name", how)],
@@ -122,7 +122,7 @@ test("what stands in Object.prototype is no option, no member, and ends no sign-
   const added = {
     conditional: true, profile: "open", userVerification: "required", acceptNone: false, isFull: true, retired: true, eligible: true, verify: () => true, exclude: [id], allow: [id],
     timeout: 5, transports: ["usb"], clientExtensionResults: 7, authenticatorAttachment: 7, userHandle: "AAAA", rawId: id, isRegistered: false, error: "x", failed: "x", zzz: { enumerable: true }, attestation: "direct", displayName: "x", authenticatorSelection: 7,
-    rpName: "x", expire: 5, secret: "t".repeat(32), signOuts: {}, lifetime: 9, accepted: {}, data: "x", user: "AAAA", user_verification: true,
+    rpName: "x", secret: "t".repeat(32), signOuts: {}, lifetime: 9, accepted: {}, data: "x", user: "AAAA", user_verification: true,
   };
   const { device } = await visitor(), other = new Device(undefined, { id: Buffer.from("other") });
   await withPrototype(added, async () => {
@@ -137,8 +137,8 @@ test("what stands in Object.prototype is no option, no member, and ends no sign-
     await assert.rejects(new Server("example.com", origins).authenticateComplete(wrong.session, response, { credential: () => plain }), { name: "W14" });
     const kept = JSON.parse(JSON.stringify(wrong.session));
     delete kept.user;
-    assert.throws(() => SignInSession.from(kept), BadInput);
-    assert.equal(RegistrationSession.from(JSON.stringify(begun.session)).conditional, false);
+    assert.throws(() => SignInSession.fromJSON(kept), BadInput);
+    assert.equal(RegistrationSession.fromJSON(JSON.stringify(begun.session)).conditional, false);
   });
 });
 
@@ -175,12 +175,11 @@ test("an error says what to write", async () => {
   const rows = [
     [() => server.registerComplete(begun.session, response), /^isRegistered is undefined: write a function, as isRegistered: \(id\) => true or false$/],
     [() => server.authenticateComplete(session, signIn, { credential }), /^credential is an object: write a function, as credential: \(id\) => the credential of this id, or null$/],
-    [() => server.authenticateComplete(JSON.parse(JSON.stringify(session)), signIn, { credential: () => credential }), /^the session is an object, and no SignInSession: SignInSession\.from\(\.\.\)/],
-    [() => server.authenticateComplete(JSON.stringify(session), signIn, { credential: () => credential }), /^the session is "\{.*, and no SignInSession: SignInSession\.from\(\.\.\)/],
+    [() => server.authenticateComplete(JSON.parse(JSON.stringify(session)), signIn, { credential: () => credential }), /^the session is an object, and no SignInSession: SignInSession\.fromJSON\(\.\.\)/],
     [() => server.authenticateComplete(begun.session, signIn, { credential: () => credential }), /^the session is a RegistrationSession, and no SignInSession/],
     [() => server.authenticateComplete(session, signIn, { credential: () => ({ ...credential, signCount: "0" }) }), /signCount is "0", and no number: write Number\(\.\.\), since pg gives a bigint as text$/],
     [() => server.authenticateComplete(session, signIn, { credential: () => ({ ...credential, signCount: 2 ** 32 }) }), /signCount is 4294967296: write a whole number from 0 to 4294967295$/],
-    [() => server.authenticateBegin({ userVerification: true }), /^userVerification is true: write "required", "preferred" or "discouraged"$/],
+    [() => server.authenticateBegin({ userVerification: "yes" }), /^userVerification is "yes": write true, false, "required", "preferred" or "discouraged"$/],
     [() => server.registerBegin(user, "name", { attestation: "packed" }), /^attestation is "packed": write "none", "indirect", "direct" or "enterprise"$/],
     [() => server.registerBegin(user, "name", { algorithms: [] }), /: write a list of one or more$/],
     [() => server.registerBegin("account 7", "name"), /^a user handle is "account 7", and not a Uint8Array: fromText reads base64url/],
@@ -201,10 +200,10 @@ test("an error says what to write", async () => {
     [() => new Server("example.com", origins, { profile: "level4" }), /^profile is "level4": write "strict", "open" or "level3"$/],
     [() => new StoredServer("p", "f", "example.com", origins, { acceptNone: false, acceptSelf: false }), /^acceptNone and acceptSelf are both false/],
     [() => new StoredServer("p", undefined, "example.com", origins), /^the file's path is undefined: write a text$/],
-    [() => new StoredServer("p", "f", "example.com", origins, { expire: "300" }), /^expire is "300": write a whole number from 1 on$/],
+    [() => new StoredServer("p", "f", "example.com", origins, { lifetime: "300" }), /^lifetime is "300": write a whole number from 1 on$/],
     [() => new SqlServer(pool, server), /^a SqlServer is over a Server: write new SqlServer\(new Server\(\.\.\), pool\)$/],
-    [() => new SqlServer(server, "postgresql://"), /^a SqlServer is over a pool of pg/], [() => sql.abandon(7), /^the session is 7: write the text of 32 hex digits that the begin gave$/],
-    [() => passkeys(server, { secret }), /^passkeys is over a server that keeps rows, and this one does not: write a StoredServer, or new SqlServer/],
+    [() => new SqlServer(server, "postgresql://"), /^a SqlServer is over a pool of pg/], [() => sql.abandon(7), /^session is 7: write the text that the begin gave, or null$/],
+    [() => passkeys(server, { secret }), /^passkeys is over a server that keeps rows, and this one does not: write a StoredServer, new SqlServer/],
     [() => passkeys(stored, { secret: "short" }), /^secret is too short: write a text of 32 random characters or more$/],
     [() => passkeys(stored), /^secret is undefined: write a text of 32/],
     [() => passkeys(stored, { secret }).signedIn(new Request("https://example.com")), /^the request is one of fetch: hand in that of node:http or of Express, or \{ headers: \{ cookie: request\.headers\.get/],

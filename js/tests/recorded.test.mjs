@@ -17,12 +17,12 @@ const visits = made.flatMap(({ origin, visits }) => visits.map((visit) => ({ ori
 
 function registered(form, visit, how) {
   const server = new form.Server("localhost", [visit.origin], how), { session, response } = visit.registration;
-  return server.registerComplete(form.RegistrationSession.from(session), response, { isRegistered: async () => false });
+  return server.registerComplete(form.RegistrationSession.fromJSON(session), response, { isRegistered: async () => false });
 }
 
 function signIn(form, visit, { session, response }, credential, how) {
   const server = new form.Server("localhost", [visit.origin], how);
-  return server.authenticateComplete(form.SignInSession.from(session), response, { credential: async () => credential });
+  return server.authenticateComplete(form.SignInSession.fromJSON(session), response, { credential: async () => credential });
 }
 
 const data = (text) => Buffer.from(text, "base64url");

@@ -195,17 +195,17 @@ test("sessions as JSON", () => {
     [RegistrationSession, server.registerBegin(user, "name", { userVerification: "required" })],
     [SignInSession, server.authenticateBegin({ user, allow: [user] })], [SignInSession, server.authenticateBegin()]]) {
     const text = JSON.stringify(session);
-    assert.deepEqual(kind.from(text), session);
-    assert.deepEqual(kind.from(JSON.parse(text)), session);
+    assert.deepEqual(kind.fromJSON(text), session);
+    assert.deepEqual(kind.fromJSON(JSON.parse(text)), session);
     for (const bad of ["", "{", "null", "7", "[]", "{}", null, undefined, text.replace("false", '"no"').replace("true", "1"),
-                       text.replace(/"challenge":"./, '"challenge":"*')]) assert.throws(() => kind.from(bad), BadInput);
+                       text.replace(/"challenge":"./, '"challenge":"*')]) assert.throws(() => kind.fromJSON(bad), BadInput);
   }
 });
 
 test("a session that was kept has all of its ids, and each of them signs in", async () => {
   const devices = [EDDSA, ES256, EDDSA].map((algorithm, index) => new Device(algorithm, { id: Buffer.from(`key ${index}`) })), made = [];
   for (const device of devices) made.push((await registered(device)).credential);
-  const { options, session } = server.authenticateBegin({ user, allow: made, userVerification: "required" }), kept = SignInSession.from(JSON.stringify(session));
+  const { options, session } = server.authenticateBegin({ user, allow: made, userVerification: "required" }), kept = SignInSession.fromJSON(JSON.stringify(session));
   assert.deepEqual(kept.allow, made.map(({ id }) => id));
   for (const [index, device] of devices.entries())
     assert.equal((await server.authenticateComplete(kept, device.signIn(options), { credential: () => made[index] })).credential.signCount, 1);
@@ -250,7 +250,12 @@ test("a session of another kind is none", async () => {
   const device = new Device(), { credential } = await registered(device);
   const { options, session } = server.authenticateBegin({ user });
   const registration = server.registerBegin(user, "name");
-  for (const begun of [session, JSON.parse(JSON.stringify(registration.session)), { ...registration.session }, 7, "text", true])
+  // A text is none: a page's visitor may have written it, whatever it says.
+  for (const text of ["", "text", JSON.stringify(registration.session), "0".repeat(32)]) {
+    await assert.rejects(server.registerComplete(text, device.register(registration.options), { isRegistered: free }), { name: "G1" });
+    await assert.rejects(server.authenticateComplete(text === "" ? text : JSON.stringify(session), device.signIn(options), { credential: () => credential }), { name: "W1" });
+  }
+  for (const begun of [session, JSON.parse(JSON.stringify(registration.session)), { ...registration.session }, 7, new String("text"), true])
     await assert.rejects(server.registerComplete(begun, device.register(registration.options), { isRegistered: free }), BadInput);
   for (const begun of [registration.session, JSON.parse(JSON.stringify(session)), 7])
     await assert.rejects(server.authenticateComplete(begun, device.signIn(options), { credential: () => credential }), BadInput);
@@ -290,8 +295,8 @@ test("what hosts hand in by mistake", async () => {
     () => server.registerBegin(user, "name", { exclude: [new Uint8Array(0)] }), () => server.registerBegin(user, "name", { exclude: [new Uint8Array(1024)] }),
     () => server.registerBegin(user, "name", { exclude: Array(65).fill(user) }), () => server.registerBegin(user, "name", { exclude: ["b25l"] }),
     () => server.registerBegin(user, "name", { exclude: [null] }), () => server.registerBegin(user, "name", { algorithms: [-258] }), () => server.registerBegin(user, "name", { algorithms: [] }),
-    () => server.registerBegin(user, "name", { algorithms: -7 }), () => server.registerBegin(user, "name", { residentKey: true }),
-    () => server.registerBegin(user, "name", { userVerification: true }), () => server.registerBegin(user, "name", { userVerification: "yes" }),
+    () => server.registerBegin(user, "name", { algorithms: -7 }), () => server.registerBegin(user, "name", { residentKey: 1 }),
+    () => server.registerBegin(user, "name", { userVerification: "true" }), () => server.registerBegin(user, "name", { userVerification: "yes" }),
     () => server.registerBegin(user, "name", { timeout: 0 }), () => server.registerBegin(user, "name", { timeout: "1" }),
     () => server.registerBegin(user, "name", { hints: ["none"] }), () => server.registerBegin(user, "name", { hints: "hybrid" }),
     () => server.registerBegin(user, "name", { authenticatorAttachment: "any" }), () => server.registerBegin(user, "name", { extensions: [] }),

@@ -62,7 +62,7 @@ for (const [name, make] of [["the program", stored], ["PostgreSQL", sql]]) {
   });
 
   test(`${name}: the end of an account ends all of it`, async (context) => {
-    for (const [index, end] of [(server, { device }) => server.delete(device.id), (server, { user }) => server.deleteAccount(user)].entries()) {
+    for (const [index, end] of [(server, { device }) => server.delete(device.id), (server, { user }) => server.erase(user)].entries()) {
       const server = make(), served = await serving(context, server), one = await registered(served, `key ${index}`), two = await registered(served, `another's ${index}`);
       const begun = await served.post("/register/begin", '{"name":"ada"}', one.cookie), response = JSON.stringify(own(`thief's ${index}`).register(begun.told));
       assert.equal(Number(await end(server, one)), 1);
@@ -214,7 +214,7 @@ test("PostgreSQL: marks stand for as long as the sign-in would, and end no sessi
   assert.deepEqual([others.length, row.data], [0, "{}"]);
   assert.match(row.id, /^ended [0-9a-f]{32}$/);
   assert.ok(Math.abs(Number(row.expires_at) - Date.now() / 1000 - 60) < 10);
-  await assert.rejects(server.abandon(row.id), BadInput);
+  assert.equal(await server.abandon(row.id), false);
   await served.post("/sign-out", "{}", cookie);
   assert.equal(await isSignedIn({ site: passkeys(sql(), { secret }) }, cookie), false, "another process knows it");
 });
@@ -227,7 +227,7 @@ test("PostgreSQL: a damaged row is logged, answers 500 to its visitor, and is in
   assert.deepEqual((await server.rows(user)).map(({ id }) => Buffer.from(id).toString()), ["second"]);
   assert.equal(await isSignedIn(served, cookie), false);
   const refused = await visit(served, "sign-in", device, { user });
-  assert.deepEqual([refused.status, refused.told, refused.cookies], [500, { error: "the site's record of this passkey is damaged" }, []]);
+  assert.deepEqual([refused.status, refused.told, refused.cookies], [500, { error: "what is stored is damaged" }, []]);
   assert.ok(errors.length === 1 && errors[0] instanceof RowDamaged && toText(errors[0].id) === toText(device.id) && errors[0].code === "GARVOENG_ROW_DAMAGED");
   assert.ok(logged.length >= 2 && logged.every((error) => error instanceof RowDamaged && toText(error.id) === toText(device.id)));
   const bySecond = await visit(served, "sign-in", second, { user });

@@ -3,7 +3,7 @@
 import assert from "node:assert/strict";
 import { createRequire } from "node:module";
 import { after, beforeEach, test } from "node:test";
-import { BadInput, Credential, EDDSA, ES256, RS256, Server, StoreFailed, toText } from "garvoeng";
+import { BadInput, Credential, EDDSA, ES256, KeptCredential, RS256, Registered, Server, SessionDamaged, SignedIn, StoreFailed, toText } from "garvoeng";
 import { SqlServer } from "garvoeng/sql";
 import { AT, Device, UP, UV, changed } from "./device.mjs";
 import { refusesHostileLines } from "./hostile_lines.mjs";
@@ -56,7 +56,7 @@ test("the tables, and what stands in them", async () => {
   assert.deepEqual({ ...row, created_at: 0 }, {
     id: device.id, user_handle: user, public_key: device.coseKey(), sign_count: "0", backup_eligible: 0, retired: 0, backed_up: 0, transports: "usb,nfc",
     aaguid: device.aaguid, created_at: 0, used_at: null });
-  assert.deepEqual(await server.rows(), [credential]);
+  assert.deepEqual(await server.rows(), [new KeptCredential({ ...credential, aaguid: device.aaguid, backedUp: false, createdAt: Number(row.created_at) })]);
   const listed = { type: "public-key", id: "a2V5", transports: ["usb", "nfc"] };
   assert.deepEqual((await serving().authenticateBegin({ user })).options.allowCredentials, [listed]);
   assert.deepEqual((await serving().registerBegin(user, "name")).options.excludeCredentials, [listed]);
@@ -84,13 +84,13 @@ test("visits", async () => {
   for (const [index, algorithm] of [ES256, EDDSA, RS256].entries()) {
     device = new Device(algorithm, { id: Buffer.from(`${index}`) });
     const { id, x, y, aaguid } = device, made = await registered(server, device, { isPacked: index === 1 });
-    assert.deepEqual(made, { credential: new Credential({ id, user, algorithm, x, y, signCount: 0, eligible: false }), aaguid: Uint8Array.from(aaguid),
-                             format: index === 1 ? "packed" : "none", userVerified: true, backedUp: false, flags: UP | UV | AT, extensions: new Uint8Array(0) });
+    assert.deepEqual(made, new Registered({ credential: new Credential({ id, user, algorithm, x, y, signCount: 0, eligible: false }), aaguid: Uint8Array.from(aaguid),
+                             format: index === 1 ? "packed" : "none", userVerified: true, backedUp: false, flags: UP | UV | AT, extensions: new Uint8Array(0) }));
     const begun = await server.authenticateBegin({ user, allow: [made.credential] });
     response = device.signIn(begun.options);
     await assert.rejects(server.authenticateComplete(begun.session, changed(response, "signature", flipped)), { name: "W14" });
-    assert.deepEqual(await server.authenticateComplete(begun.session, response), {
-      id: Uint8Array.from(id), user: Uint8Array.from(user), signCount: 1, userVerified: true, backedUp: false, flags: UP | UV, extensions: new Uint8Array(0) });
+    assert.deepEqual(await server.authenticateComplete(begun.session, response), new SignedIn({
+      credential: new Credential({ id, user, algorithm, x, y, signCount: 1, eligible: false }), before: null, userVerified: true, backedUp: false, flags: UP | UV, extensions: new Uint8Array(0) }));
     await assert.rejects(server.authenticateComplete(begun.session, response), { name: "W1" });
   }
   assert.deepEqual((await server.rows(user)).map(({ signCount }) => signCount), [1, 1, 1]);
@@ -125,7 +125,7 @@ test("the account's own credentials are excluded and listed", async () => {
   assert.deepEqual([begun.options.allowCredentials, JSON.parse((await run("select data from garvoeng_session where id = $1", begun.session))[0].data).user], [[], toText(user)]);
 });
 
-test("retirement ends an account's registrations, deletion all that it has open", async () => {
+test("retirement and deletion end an account's registrations, its erasure all that it has open", async () => {
   const server = serving(), nobody = Buffer.from("nobody"), device = new Device(), more = (id) => new Device(ES256, { id: Buffer.from(id) });
   await registered(server, device);
   await registered(server, more("second"));
@@ -140,23 +140,24 @@ test("retirement ends an account's registrations, deletion all that it has open"
   assert.deepEqual(await open(), ids(first.slice(1)));
   await assert.rejects(server.registerComplete(first[0].session, more("third").register(first[0].options)), { name: "G1" });
   assert.equal(await server.delete(Buffer.from("none")), false);
+  const again = await server.registerBegin(user, "name");
   assert.deepEqual([await server.delete(device.id, user), await server.delete(device.id)], [true, false]);
-  assert.deepEqual(await open(), ids(first.slice(2)));
+  assert.deepEqual([await open(), (await open()).includes(again.session)], [ids(first.slice(1)), false]);
   await server.registerComplete(first[2].session, more("nobody's").register(first[2].options));
   await run("delete from garvoeng_session");
   const second = await begins();
   await registered(server, device);
-  assert.equal(await server.deleteAccount(user), 2);
+  assert.equal(await server.erase(user), 2);
   assert.deepEqual(await open(), ids(second.slice(2)));
-  assert.deepEqual([await server.deleteAccount(user), (await server.rows()).map(({ id }) => Buffer.from(id).toString())], [0, ["nobody's"]]);
-  for (const bad of ["x", null, new Uint8Array(0), new Uint8Array(65)]) await assert.rejects(server.deleteAccount(bad), BadInput);
+  assert.deepEqual([await server.erase(user), (await server.rows()).map(({ id }) => Buffer.from(id).toString())], [0, ["nobody's"]]);
+  for (const bad of ["x", null, new Uint8Array(0), new Uint8Array(65)]) await assert.rejects(server.erase(bad), BadInput);
   for (const bad of ["x", null, undefined]) await assert.rejects(server.delete(bad), BadInput);
   // All of it is one transaction: a failure changes nothing.
   const failing = serving({}, { listenerCount: () => 1, connect: async () => {
     const client = await pool.connect(), query = (text, values) => (text.startsWith("delete from garvoeng_credential") ? Promise.reject(new Error("none")) : client.query(text, values));
     return { query, on: client.on.bind(client), removeListener: client.removeListener.bind(client), release: client.release.bind(client) };
   } });
-  for (const call of [() => failing.delete(Buffer.from("nobody's")), () => failing.deleteAccount(nobody)]) await assert.rejects(call(), { name: "StoreFailed" });
+  for (const call of [() => failing.delete(Buffer.from("nobody's")), () => failing.erase(nobody)]) await assert.rejects(call(), { name: "StoreFailed" });
   assert.deepEqual([await open(), (await server.rows()).length], [ids(second.slice(2)), 1]);
 });
 
@@ -166,10 +167,10 @@ test("deletion and sign-ins of one account at once", async () => {
     const device = new Device();
     await registered(server, device);
     const { options, session } = await server.authenticateBegin({ user }), begun = await server.registerBegin(user, "name"), added = new Device(ES256, { id: Buffer.from(`added ${time}`) });
-    const [signIn, registration] = await Promise.allSettled([second.authenticateComplete(session, device.signIn(options, { user })), server.registerComplete(begun.session, added.register(begun.options)), second.deleteAccount(user)]);
+    const [signIn, registration] = await Promise.allSettled([second.authenticateComplete(session, device.signIn(options, { user })), server.registerComplete(begun.session, added.register(begun.options)), second.erase(user)]);
     for (const [{ status, reason }, names] of [[signIn, ["W1", "W3"]], [registration, ["G1"]]]) assert.ok(status === "fulfilled" || names.includes(reason.name), String(reason));
     assert.ok((await server.rows()).length <= (registration.status === "fulfilled" ? 1 : 0));
-    await server.deleteAccount(user);
+    await server.erase(user);
   }
 });
 
@@ -230,7 +231,7 @@ test("what another host did between the verdict and the write is seen", async ()
       return { query, on: client.on.bind(client), removeListener: client.removeListener.bind(client), release: client.release.bind(client) };
     } };
     await assert.rejects(serving({}, meddling).authenticateComplete(session, response), { name: wanted });
-    assert.equal((await plain.authenticateComplete(session, response)).signCount, 1, "it was rolled back");
+    assert.equal((await plain.authenticateComplete(session, response)).credential.signCount, 1, "it was rolled back");
     await run("delete from garvoeng_credential");
   }
 });
@@ -247,7 +248,7 @@ test("connections that end", async () => {
     try {
       const [session, response] = await signIn(server, device);
       const [answer] = await Promise.all([server.authenticateComplete(session, response), time % 2 === 0 ? other.query(end) : null]);
-      assert.equal(answer.signCount, device.count);
+      assert.equal(answer.credential.signCount, device.count);
       accepted++;
     } catch (error) {
       assert.ok(error instanceof StoreFailed, String(error));
@@ -280,8 +281,16 @@ test("rows that no site writes are the database's failure", async () => {
   for (const data of ["", "{", "[]", "null", '{"allow":[]}', '{"allow":[],"challenge":"*","user":null,"user_verification":false}']) {
     const [session, response] = await signIn(server, device);
     await run("update garvoeng_session set data = $1 where id = $2", data, session);
-    await assert.rejects(server.authenticateComplete(session, response), (error) => error instanceof StoreFailed || error.name === "W1", data);
+    await assert.rejects(server.authenticateComplete(session, response), (error) => error instanceof SessionDamaged && error.session === session && !error.message.includes(session), data);
+    assert.equal((await run("select data from garvoeng_session where id = $1", session))[0].data, data, "it is left as it is");
   }
+  // Those of another kind, and those that are bound to a sign-in of Python's, are none of a sign-in.
+  const [other, answer] = await signIn(server, device), [{ data }] = await run("select data from garvoeng_session where id = $1", other);
+  for (const more of [{ algorithms: [-7] }, { signed_in: 1 }, { sign_in: "0".repeat(32) }]) {
+    await run("update garvoeng_session set data = $1 where id = $2", JSON.stringify({ ...JSON.parse(data), ...more }), other);
+    await assert.rejects(server.authenticateComplete(other, answer), { name: "W1" });
+  }
+
   const [session, response] = await signIn(server, device);
   for (const [column, value] of [["public_key", Buffer.from("a0", "hex")], ["public_key", Buffer.alloc(0)], ["sign_count", 2 ** 33], ["sign_count", -1]]) {
     const [{ kept }] = await run(`select ${column} as kept from garvoeng_credential`);
@@ -299,7 +308,8 @@ test("what hosts and visitors hand in", async () => {
     const why = typeof bad === "string" ? (error) => error.number === 1 : BadInput;
     await assert.rejects(server.registerComplete(bad, made), why);
     await assert.rejects(server.authenticateComplete(bad, signed), why);
-    await assert.rejects(server.abandon(bad), BadInput);
+    if (typeof bad === "string") assert.equal(await server.abandon(bad), false);
+    else await assert.rejects(server.abandon(bad), BadInput);
   }
   for (const bad of ["AA", null, undefined, [1]]) await assert.rejects(server.retire(bad), BadInput);
   await assert.rejects(server.rows("x"), BadInput);

@@ -4,7 +4,7 @@ import { chmodSync, existsSync, mkdtempSync, readFileSync, rmSync, writeFileSync
 import { tmpdir } from "node:os";
 import { join } from "node:path";
 import { after, test } from "node:test";
-import { BadInput, Credential, EDDSA, ES256, RS256, Server, StoreFailed, StoredServer, fromText, toText } from "garvoeng";
+import { BadInput, Credential, EDDSA, ES256, RS256, Server, SignedIn, StoreFailed, StoredServer, fromText, toText } from "garvoeng";
 import { AT, Device, ED, UP, UV, changed } from "./device.mjs";
 import { refusesHostileLines } from "./hostile_lines.mjs";
 
@@ -44,8 +44,8 @@ test("visits", async () => {
     const { options, session } = await server.authenticateBegin({ user, allow: [made.credential] });
     response = device.signIn(options, { user });
     await assert.rejects(server.authenticateComplete(session, changed(response, "signature", flipped)), { name: "W14" });
-    assert.deepEqual(await server.authenticateComplete(session, response), {
-      id: Uint8Array.from(id), user: Uint8Array.from(user), signCount: 1, userVerified: true, backedUp: false, flags: UP | UV, extensions: new Uint8Array(0) });
+    assert.deepEqual(await server.authenticateComplete(session, response), new SignedIn({
+      credential: new Credential({ id, user, algorithm, x, y, signCount: 1, eligible: false }), before: null, userVerified: true, backedUp: false, flags: UP | UV, extensions: new Uint8Array(0) }));
     await assert.rejects(server.authenticateComplete(session, response), { name: "W1", isRegistration: false });
   }
   assert.deepEqual((await server.rows(user)).map(({ id, signCount }) => [Buffer.from(id).toString(), signCount]), [["0", 1], ["1", 1], ["2", 1]]);
@@ -99,7 +99,7 @@ test("options are those of Server, and the session is of what they ask", async (
   const listed = await server.authenticateBegin({ allow: [id], userVerification: "required" });
   await assert.rejects(server.authenticateComplete(listed.session, device.signIn(listed.options)), { name: "W2" });
   const second = await server.authenticateBegin({ allow: [id, device.id] });
-  assert.equal((await server.authenticateComplete(second.session, device.signIn(second.options, { user }))).signCount, 2);
+  assert.equal((await server.authenticateComplete(second.session, device.signIn(second.options, { user }))).credential.signCount, 2);
   const verified = await server.authenticateBegin({ user, userVerification: "required" });
   await assert.rejects(server.authenticateComplete(verified.session, device.signIn(verified.options, { flags: UP })), { name: "W13" });
   const others = await server.authenticateBegin({ user: Buffer.from("somebody else") });
@@ -146,7 +146,7 @@ test("the account's own credentials are excluded and listed", async () => {
   const five = await begins(nobody);
   assert.deepEqual([await server.retireAll(nobody), await server.retireAll(nobody)], [1, 0]);
   await assert.rejects(ends(five), { name: "G1" });
-  assert.deepEqual([(await server.rows()).map(({ retired }) => retired), await server.deleteAccount(user), await server.deleteAccount(nobody)], [[true], 0, 1]);
+  assert.deepEqual([(await server.rows()).map(({ retired }) => retired), await server.erase(user), await server.erase(nobody)], [[true], 0, 1]);
   await server.close();
 });
 
@@ -177,8 +177,8 @@ test("a text is of one site, one ceremony and one use, over a restart too", asyn
   await assert.rejects(another.registerComplete(makes.session, made), { name: "G1" });
   assert.equal(await another.abandon(signs.session), false);
   await another.close();
-  for (const text of [null, undefined, "", "1", 0, 1, -1, 0.5, NaN, 2 ** 53, 1n, true, [1], {}, { valueOf: () => 1 }, "1; drop", "\ud800", "A".repeat(2_875), "A".repeat(70_000),
-                      `${signs.session}=`, `${signs.session}A`, `${signs.session}\n`, signs.session.slice(1), Buffer.from(signs.session), new String(signs.session), ...changes]) {
+  for (const text of [null, undefined, "", "1", "1; drop", "\ud800", "A".repeat(2_875), "A".repeat(70_000),
+                      `${signs.session}=`, `${signs.session}A`, `${signs.session}\n`, signs.session.slice(1), ...changes]) {
     await isUnknown(server, text);
     assert.equal(await server.abandon(text), false);
   }
@@ -188,7 +188,7 @@ test("a text is of one site, one ceremony and one use, over a restart too", asyn
   await server.close();
   server = serving("texts.db");
   await assert.rejects(server.authenticateComplete(left.session, answer), { name: "W1" });
-  assert.equal((await server.authenticateComplete(signs.session, response)).signCount, device.count - 1);
+  assert.equal((await server.authenticateComplete(signs.session, response)).credential.signCount, device.count - 1);
   assert.equal(toText((await server.registerComplete(makes.session, made)).credential.id), toText(other.id));
   await isUnknown(server, signs.session);
   await assert.rejects(server.registerComplete(makes.session, made), { name: "G1" });
@@ -203,7 +203,7 @@ test("what another program added to Object.prototype is no answer", async () => 
     assert.equal(await server.signOuts.has("none", Date.now() + 60_000), false);
     const { options, session } = await server.authenticateBegin({ user });
     await assert.rejects(server.authenticateComplete(`${session}A`, device.signIn(options)), { name: "W1" });
-    assert.equal((await server.authenticateComplete(session, device.signIn(options))).signCount, 2);
+    assert.equal((await server.authenticateComplete(session, device.signIn(options))).credential.signCount, 2);
     await assert.rejects(registered(server, new Device(EDDSA, { id: user }), { flags: AT }), { name: "G9" }, "it is not conditional");
   } finally {
     for (const name of Object.keys(added)) delete Object.prototype[name];
@@ -214,7 +214,7 @@ test("what another program added to Object.prototype is no answer", async () => 
 test("a logger that throws, and one that rejects, end nothing", async () => {
   for (const logger of [() => { throw new Error("of the logger"); }, async () => { throw new Error("of the logger"); }]) {
     const server = serving("logger.db", { log: "all", logger });
-    await assert.rejects(server.authenticateComplete(5, new Device().signIn({ challenge: "AA" })), { name: "W1" });
+    await assert.rejects(server.authenticateComplete("5", new Device().signIn({ challenge: "AA" })), { name: "W1" });
     await server.close();
   }
 });
@@ -282,7 +282,7 @@ test("what the server takes", async () => {
   const restored = serving("copy.db");
   assert.deepEqual((await restored.rows()).map((row) => row.id), [id]);
   await restored.close();
-  const short = serving("short.db", { expire: 1 }), old = (await short.authenticateBegin()).session;
+  const short = serving("short.db", { lifetime: 1 }), old = (await short.authenticateBegin()).session;
   await sleep(2_500);
   const young = (await short.authenticateBegin()).session;
   assert.deepEqual([await short.abandon(old), await short.abandon(young)], [false, true]);
@@ -295,8 +295,8 @@ test("what hosts hand in by mistake", async () => {
     () => server.registerBegin("account 7", "name"), () => server.registerBegin(new Uint8Array(0), "name"), () => server.registerBegin(new Uint8Array(65), "name"),
     () => server.registerBegin(user), () => server.registerBegin(user, 7), () => server.registerBegin(user, "A".repeat(70_000)), () => server.registerBegin(user, "\ud800"),
     () => server.registerBegin(user, "name", { exclude: Array(65).fill(user) }), () => server.registerBegin(user, "name", { algorithms: [] }),
-    () => server.registerBegin(user, "name", { algorithms: [1] }), () => server.registerBegin(user, "name", { userVerification: true }),
-    () => server.registerBegin(user, "name", { residentKey: true }), () => server.registerBegin(user, "name", { timeout: 0 }),
+    () => server.registerBegin(user, "name", { algorithms: [1] }), () => server.registerBegin(user, "name", { userVerification: 1 }),
+    () => server.registerBegin(user, "name", { residentKey: 0 }), () => server.registerBegin(user, "name", { timeout: 0 }),
     () => server.authenticateBegin({ user: "7" }), () => server.authenticateBegin({ allow: [""] }), () => server.authenticateBegin({ allow: Array(65).fill(user) }),
     () => server.authenticateBegin({ hints: ["x"] }), () => server.retire("AA"), () => server.rows("x"), () => server.erase("x"), () => server.retireAll(null),
     () => server.registerComplete(session, null), () => server.authenticateComplete(session, { ...response, id: "A".repeat(70_000), rawId: "A".repeat(70_000) }),
@@ -311,7 +311,7 @@ test("what hosts hand in by mistake", async () => {
   assert.equal(numberOf((await server.authenticateBegin()).options), 2n, "nothing began");
   assert.equal(await server.abandon(session), true);
   await server.close();
-  for (const make of [{ acceptNone: false, acceptSelf: false }, { log: "some" }, { maxCredentials: 0 }, { maxCredentials: "9" }, { expire: -1 }, { timeout: 0 }, { rpName: "" }, { rpName: "a\0b" }])
+  for (const make of [{ acceptNone: false, acceptSelf: false }, { log: "some" }, { maxCredentials: 0 }, { maxCredentials: "9" }, { lifetime: -1 }, { timeout: 0 }, { rpName: "" }, { rpName: "a\0b" }])
     assert.throws(() => serving("none.db", make), BadInput);
   for (const words of [["", "x"], [7, "x"], [PROGRAM, ""], [PROGRAM, "a\0b"], [PROGRAM, null]])
     assert.throws(() => new StoredServer(...words, "example.com", ["https://example.com"]), BadInput);
@@ -328,7 +328,7 @@ test("a signature counts as valid by nothing but true", async () => {
   server.verify = () => Promise.reject(new Error("no mathematics"));
   await assert.rejects(server.authenticateComplete(session, response), { message: "no mathematics" });
   server.verify = async () => true;
-  assert.equal((await server.authenticateComplete(session, response)).signCount, 1);
+  assert.equal((await server.authenticateComplete(session, response)).credential.signCount, 1);
   await server.close();
 });
 
@@ -339,7 +339,7 @@ test("hostile values: as Server answers them, by one process", async () => {
   await refusesHostileLines(server, { registration: session, signIn: asked.session });
   for (const value of [undefined, Symbol("a"), 7n, () => ({}), new Proxy([], {}), new Date()]) await assert.rejects(server.registerComplete(session, value), { text: "response is missing" });
   await server.registerComplete(session, good);
-  assert.equal((await server.authenticateComplete(asked.session, device.signIn(asked.options, { user }))).signCount, 1);
+  assert.equal((await server.authenticateComplete(asked.session, device.signIn(asked.options, { user }))).credential.signCount, 1);
   assert.deepEqual(children(), [first]);
   await server.close();
 });
@@ -370,7 +370,7 @@ test("programs that answer something else, or nothing", async () => {
   assert.ok(found.every(({ reason }) => reason instanceof StoreFailed) && Date.now() - began < 50_000);
   assert.match(found[0].reason.message, /did not answer in 1 seconds/);
   const odd = broken("odd", 'stdin.on("data", () => stdout.write("{\\"id\\":1,\\"unknown\\":0}\\n"));');
-  await assert.rejects(odd.authenticateComplete(1, new Device().signIn({ challenge: "AA" })), StoreFailed);
+  await assert.rejects(odd.authenticateComplete("1", new Device().signIn({ challenge: "AA" })), StoreFailed);
   await odd.close();
   const idle = serving("idle.db"), timers = () => process.getActiveResourcesInfo().filter((name) => name === "Timeout").length, before = timers();
   await idle.rows();
@@ -424,7 +424,7 @@ test("what could not be started says why", async () => {
   await one.close();
   assert.deepEqual(await other.rows(), [], "the next call starts it");
   await other.close();
-  const absent = serving("absent.db", { isExisting: true });
+  const absent = serving("absent.db", { existing: true });
   await assert.rejects(absent.rows(), { name: "StoreFailed", message: /there is no file at this path/ });
   assert.equal(existsSync(path("absent.db")), false);
   for (const program of ["/no/such/program", folder])
@@ -443,7 +443,7 @@ test("what could not be started says why", async () => {
   }
   for (const [log, wanted] of [[false, 0], [true, 1], ["all", 1]]) {
     const said = [], server = serving(`log${log}.db`, { log, logger: (line) => said.push(line) });
-    await assert.rejects(server.authenticateComplete(5, new Device().signIn({ challenge: "AA" })), { name: "W1" });
+    await assert.rejects(server.authenticateComplete("5", new Device().signIn({ challenge: "AA" })), { name: "W1" });
     await server.close();
     assert.equal(said.filter((line) => line.includes("sign-in refused W1 ")).length, wanted);
   }
@@ -465,7 +465,7 @@ test("a program that is killed or hangs: what was in flight is rejected, the nex
   const { options, session } = await server.authenticateBegin(), response = device.signIn(options, { user });
   process.kill(children()[0], "SIGKILL");
   await sleep(200);
-  assert.equal((await server.authenticateComplete(session, response)).signCount, device.count, "a session outlives the program");
+  assert.equal((await server.authenticateComplete(session, response)).credential.signCount, device.count, "a session outlives the program");
   const again = await server.authenticateBegin();
   assert.equal(await server.abandon(again.session), true);
   assert.ok(numberOf(options) < numberOf(again.options), "no number comes again");

@@ -73,8 +73,8 @@ export async function hostile(form, text) {
   const { id, user, x, y, sign_count, ...rest } = party.credential;
   const credential = new form.Credential({ ...rest, id: bytes(id), user: bytes(user), x: bytes(x), y: bytes(y), signCount: sign_count });
   const calls = {
-    registration: (response) => server.registerComplete(form.RegistrationSession.from(party.registration), response, { isRegistered: () => false }),
-    sign_in: (response) => server.authenticateComplete(form.SignInSession.from(party.sign_in), response, {
+    registration: (response) => server.registerComplete(form.RegistrationSession.fromJSON(party.registration), response, { isRegistered: () => false }),
+    sign_in: (response) => server.authenticateComplete(form.SignInSession.fromJSON(party.sign_in), response, {
       credential: (asked) => (is(asked, credential.id) ? credential : null),
     }),
   };
@@ -103,9 +103,9 @@ export async function recorded(form, files) {
   for (const { origin, visits } of files.map((file) => JSON.parse(file))) {
     const server = new form.Server("localhost", [origin]), none = new form.Server("localhost", [origin], { verify: () => false });
     for (const { registration, sign_ins } of visits) {
-      const made = await server.registerComplete(form.RegistrationSession.from(registration.session), registration.response, { isRegistered: () => false });
+      const made = await server.registerComplete(form.RegistrationSession.fromJSON(registration.session), registration.response, { isRegistered: () => false });
       for (const { session, response } of sign_ins) {
-        const begun = form.SignInSession.from(session), find = { credential: () => made.credential };
+        const begun = form.SignInSession.fromJSON(session), find = { credential: () => made.credential };
         await count("accepted", server.authenticateComplete(begun, response, find));
         await count("W14", none.authenticateComplete(begun, response, find));
       }

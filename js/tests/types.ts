@@ -13,7 +13,7 @@ export async function registers(user: Uint8Array, page: (options: object) => Pro
 
 export async function signsIn(kept: string, response: unknown): Promise<Uint8Array | null> {
   try {
-    const said = await server.authenticateComplete(SignInSession.from(kept), response, { credential: async (id) => table.get(toText(id)) });
+    const said = await server.authenticateComplete(SignInSession.fromJSON(kept), response, { credential: async (id) => table.get(toText(id)) });
     return said.backedUp ? said.credential.user : fromText("AA", "it");
   } catch (error) {
     if (error instanceof Refused) return error.number === 15 ? null : Promise.reject(new Error(error.step));
@@ -22,8 +22,9 @@ export async function signsIn(kept: string, response: unknown): Promise<Uint8Arr
   }
 }
 
-// @ts-expect-error: user verification is a text
 server.authenticateBegin({ userVerification: true });
+// @ts-expect-error: user verification is true, false or one of three texts
+server.authenticateBegin({ userVerification: "yes" });
 // @ts-expect-error: a user handle is bytes
 server.registerBegin("account 7", "name");
 // @ts-expect-error: a session of a registration is none of a sign-in

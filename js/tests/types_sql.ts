@@ -1,9 +1,9 @@
 // The same of the servers that store.
-import { BadInput, Credential, Refused, RowDamaged, Server, StoreFailed, StoredServer, StoredSignIn } from "garvoeng";
+import { BadInput, Credential, KeepingServer, KeptCredential, MemoryStore, PasskeyServer, Refused, RowDamaged, Server, SessionDamaged, SignedIn, Store, StoreFailed, StoredServer } from "garvoeng";
 import { SqlPool, SqlServer } from "garvoeng/sql";
 
 const how = { rpName: "A site", profile: "strict" as const };
-const stored: StoredServer = new StoredServer("passkey-site", "site.db", "example.com", ["https://example.com"], { ...how, log: "all", expire: 300 });
+const stored: StoredServer = new StoredServer("passkey-site", "site.db", "example.com", ["https://example.com"], { ...how, log: "all", lifetime: 300 });
 declare const pool: SqlPool;
 const sql: SqlServer = new SqlServer(new Server("example.com", ["https://example.com"], how), pool, { lifetime: 60 });
 
@@ -11,16 +11,47 @@ export async function visits(user: Uint8Array, page: (options: object) => Promis
   const begun = await stored.registerBegin(user, "name", { residentKey: "preferred", exclude: await stored.rows(user) });
   const made = await stored.registerComplete(begun.session, await page(begun.options));
   const { options, session } = await sql.authenticateBegin({ allow: [made.credential], userVerification: "required" });
-  const told: StoredSignIn = await sql.authenticateComplete(session, await page(options));
-  await Promise.all([stored.retire(told.id), stored.abandon(begun.session), stored.retireAll(told.user), stored.erase(told.user), stored.delete(told.id), stored.backup("copy.db"), sql.abandon(session), sql.delete(told.id), sql.deleteAccount(told.user), stored.deleteAccount(told.user)]);
+  const told: SignedIn = await sql.authenticateComplete(session, await page(options));
+  const { id, user: account } = told.credential;
+  await Promise.all([stored.backup("copy.db"), ...[stored, sql, kept].map((one) => ends(one, id, account, session))]);
   const counted: number | undefined = (await stored.status()).sign_ins_refused["W14"];
   if (counted === 0) throw new Error("0 is left out");
   await stored.close();
-  return sql.rows(told.user);
+  return sql.rows(account);
 }
+
+// A site that knows no storage.
+async function ends(server: PasskeyServer, id: Uint8Array, account: Uint8Array, session: string | null): Promise<[boolean, number, readonly KeptCredential[]]> {
+  const did = [await server.retire(id, account), await server.delete(id), await server.abandon(session)].every((one) => one);
+  return [did, await server.retireAll(account) + await server.erase(account), await server.rows()];
+}
+
+// A storage of the site's own, over another one.
+class Counted implements Store {
+  readonly inner = new MemoryStore();
+  begins = 0;
+  readonly session = this.inner.session.bind(this.inner);
+  readonly register = this.inner.register.bind(this.inner);
+  readonly signIn = this.inner.signIn.bind(this.inner);
+  readonly abandon = this.inner.abandon.bind(this.inner);
+  readonly row = async (id: Uint8Array): Promise<KeptCredential | null> => this.inner.row(id);
+  readonly rows = async (user: Uint8Array | null): Promise<KeptCredential[]> => this.inner.rows(user);
+  readonly retire = this.inner.retire.bind(this.inner);
+  readonly retireAll = this.inner.retireAll.bind(this.inner);
+  readonly delete = this.inner.delete.bind(this.inner);
+  readonly erase = this.inner.erase.bind(this.inner);
+  begin(session: Parameters<Store["begin"]>[0]): void {
+    this.begins += session.kind === "registration" ? 1 : 0;
+    this.inner.begin(session);
+  }
+}
+const kept: KeepingServer = new KeepingServer(new Server("example.com", ["https://example.com"]), new Counted(), { lifetime: 60 });
+// @ts-expect-error: a store has all of its calls
+new KeepingServer(new Server("example.com", ["https://example.com"]), { begin: () => {} });
 
 export function status(error: unknown): number {
   if (error instanceof Refused || error instanceof BadInput) return 400;
+  if (error instanceof SessionDamaged) return error.session.length;
   return error instanceof StoreFailed ? 503 : error instanceof RowDamaged ? error.id.length : 500;
 }
 

@@ -7,18 +7,22 @@ module calls. Signatures are verified by `cryptography`.
     options, session = server.authenticate_begin()
     signed_in = server.authenticate_complete(session, response, credential=find)
 
-`StoredServer` has the same four calls over the proved program, which keeps credentials in a file.
+`Server` keeps nothing. `KeepingServer` over a storage of the site's own, `SqlServer` over a database and `StoredServer` over a file of the
+proved program have the same four calls without look-ups, and what keeps credentials: a site changes its storage by the line that makes the
+server.
 """
 from .errors import BadInput, Refused, RowDamaged, SessionDamaged
 from .library import EDDSA, ES256, RS256, is_canonical
+from .keeping import KeepingServer, OpenSession, PasskeyServer, Store
 from .limits import MAX_LIST
+from .memory import MemoryStore
 from .rate_limit import RateLimit
-from .records import Credential, Registered, RegistrationSession, SignedIn, SignInSession
+from .records import Credential, KeptCredential, Registered, RegistrationSession, SignedIn, SignInSession
 from .server import Server
-from .stored import KeptCredential, StoredServer, StoredSignIn, StoreFailed
+from .stored import StoredServer, StoreFailed
 
 __version__ = "0.1.0"
 
-__all__ = ["EDDSA", "ES256", "MAX_LIST", "RS256", "BadInput", "Credential", "KeptCredential",
-           "RateLimit", "Refused", "Registered", "RegistrationSession", "RowDamaged", "Server", "SessionDamaged", "SignInSession", "SignedIn", "StoreFailed", "StoredServer",
-           "StoredSignIn", "is_canonical"]
+__all__ = ["EDDSA", "ES256", "MAX_LIST", "RS256", "BadInput", "Credential", "KeepingServer", "KeptCredential", "MemoryStore", "OpenSession",
+           "PasskeyServer", "RateLimit", "Refused", "Registered", "RegistrationSession", "RowDamaged", "Server", "SessionDamaged",
+           "SignInSession", "SignedIn", "Store", "StoreFailed", "StoredServer", "is_canonical"]

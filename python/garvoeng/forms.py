@@ -36,10 +36,10 @@ def from_text(text: Any, what: str) -> bytes:
     return made
 
 
-def sealed(session: Any) -> str:
+def sealed(session: Optional[str]) -> str:
     """The text of a session of `StoredServer`: of what no begin gave none, which is an unknown session to the program."""
     try:
-        return session if isinstance(session, str) and len(session) <= MAX_SESSION and from_text(session, "session") else ""
+        return session if session is not None and len(session) <= MAX_SESSION and from_text(session, "session") else ""
     except BadInput:
         return ""
 

@@ -4,7 +4,7 @@ from __future__ import annotations
 
 import re
 from collections.abc import Iterable, Mapping
-from typing import Any, List, Sequence, Tuple
+from typing import Any, List, Optional, Sequence, Tuple
 
 from .answers import kind_of
 from .errors import BadInput
@@ -133,6 +133,30 @@ def check_algorithms(algorithms: Sequence[int]) -> Tuple[int, ...]:
     if not listed or not all(type(number) is int and number in (ES256, EDDSA, RS256) for number in listed):
         raise BadInput("algorithms has one or more of ES256 (-7), EDDSA (-8) and RS256 (-257), and no other")
     return listed
+
+
+def check_key(algorithm: int, x: bytes, y: bytes) -> None:
+    """The sizes of a public key's parts."""
+    if algorithm not in (ES256, EDDSA, RS256):
+        raise BadInput("a credential's algorithm is ES256 (-7), EDDSA (-8) or RS256 (-257)")
+    fits = len(x) in (256, 384, 512) and 1 <= len(y) <= 4 if algorithm == RS256 else len(x) == 32 and len(y) == (32 if algorithm == ES256 else 0)
+    if not fits:
+        raise BadInput("the key is out of its limits: x and y have 32 bytes of ES256, 32 and none of EdDSA, 256, 384 or 512 and 1 to 4 of RS256")
+
+
+def check_lifetime(seconds: Any) -> int:
+    if not isinstance(seconds, int) or isinstance(seconds, bool):
+        raise TypeError(f"lifetime is a whole number of seconds, and not {kind_of(seconds)}")
+    if seconds < 1:
+        raise BadInput(f"lifetime is 1 second or more, and not {seconds}")
+    return seconds
+
+
+def check_session(session: Any) -> Optional[str]:
+    """The text of a session that a visitor hands back; None where there is none. Of a text that no begin gave none is open."""
+    if session is not None and not isinstance(session, str):
+        raise TypeError(f"session is the text that the begin gave, or None, and not {kind_of(session)}")
+    return session
 
 
 def check_credential(algorithm: int, sign_count: int) -> None:

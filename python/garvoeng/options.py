@@ -68,15 +68,15 @@ def _more(timeout: Optional[int], hints: Sequence[str], extensions: Optional[Map
     return made
 
 
-def of_creation(user_verification: str, resident: Requirement, attachment: Optional[str], attestation: str, timeout: Optional[int],
+def of_creation(user_verification: str, resident_key: Requirement, authenticator_attachment: Optional[str], attestation: str, timeout: Optional[int],
                 hints: Sequence[str], extensions: Optional[Mapping[str, Any]]) -> Dict[str, Any]:
     """The members of creation options that no verdict looks at but by `user_verification` and `attestation` of the session (WebAuthn
     Level 2, section 5.4). Raises `BadInput`."""
-    resident_key = _requirement_of(resident, "resident", "discouraged")
-    selection: Dict[str, Any] = {"residentKey": resident_key, "requireResidentKey": resident_key == "required",
+    kept = _requirement_of(resident_key, "resident_key", "discouraged")
+    selection: Dict[str, Any] = {"residentKey": kept, "requireResidentKey": kept == "required",
                                  "userVerification": user_verification}
-    if attachment is not None:
-        selection["authenticatorAttachment"] = _one_of(attachment, "attachment", ATTACHMENTS)
+    if authenticator_attachment is not None:
+        selection["authenticatorAttachment"] = _one_of(authenticator_attachment, "authenticator_attachment", ATTACHMENTS)
     return {"authenticatorSelection": selection, "attestation": _one_of(attestation, "attestation", ATTESTATIONS),
             **_more(timeout, hints, extensions)}
 
@@ -93,10 +93,16 @@ def ids_of(ids: Ids, what: str, most: int = limits.MAX_LIST) -> "tuple[bytes, ..
     return limits.check_ids([one.id if isinstance(one, Credential) else one for one in listed], what, most)
 
 
-def fitting(rows: Sequence[Credential], most: int) -> Sequence[Credential]:
-    """Those of an account's credentials for which a list and a line have room, the first ones."""
+def fitting(rows: Sequence[Credential], most: int = limits.MAX_LIST) -> Sequence[Credential]:
+    """What is excluded where a site gives no list: those of an account's credentials for which a list and a line have room, the first
+    ones."""
     sizes = accumulate(len(row.id) for row in rows[:most])
     return rows[:sum(size <= MAX_OWN for size in sizes)]
+
+
+def allowed(own: Sequence[Credential], most: int = limits.MAX_LIST) -> Sequence[Credential]:
+    """What is listed where a site gives no list: all of an account's credentials, or none, so that any of them may answer."""
+    return own if len(fitting(own, most)) == len(own) else ()
 
 
 def user_entity(user: bytes, user_name: str, display_name: Optional[str]) -> Dict[str, str]:

@@ -3,26 +3,77 @@ from __future__ import annotations
 
 import json
 from dataclasses import dataclass
-from typing import Any, Dict, Iterable, Mapping, Optional, Tuple, Union
+from typing import Any, Dict, Iterable, Mapping, Optional, Tuple, Type, TypeVar, Union
 
-from . import forms, library
+from . import forms, library, limits
 from .errors import BadInput
 from .library import EDDSA, ES256, RS256
 
-def _members(value: Union[str, Mapping[str, Any]], wanted: str) -> Mapping[str, Any]:
-    """The members of a session in JSON. That which only one kind has is wanted as a list."""
+Json = Union[str, Mapping[str, Any]]
+"""A text of JSON, or what it says."""
+_TIME = 2**53 - 1
+Open = TypeVar("Open", "RegistrationSession", "SignInSession")
+
+
+def _object(value: Any, what: str) -> Mapping[str, Any]:
+    """The members of an object in JSON."""
     if isinstance(value, str):
         try:
             value = json.loads(value)
         except (ValueError, RecursionError):
-            raise BadInput("the session is not JSON") from None
+            raise BadInput(f"the {what} is not JSON") from None
     if not isinstance(value, Mapping):
-        raise BadInput("the session is not an object")
-    if not isinstance(value.get(wanted), list):
-        raise BadInput(f"{wanted} is not an array")
-    if not isinstance(value.get("user_verification"), bool):
-        raise BadInput("user_verification is not true or false")
+        raise BadInput(f"the {what} is not an object")
     return value
+
+
+def _bytes(said: Mapping[str, Any], name: str) -> bytes:
+    return forms.from_text(said.get(name), name)
+
+
+def _bytes_or_none(said: Mapping[str, Any], name: str) -> Optional[bytes]:
+    """What may be null, and may not be left out."""
+    return None if name in said and said[name] is None else _bytes(said, name)
+
+
+def _flag(said: Mapping[str, Any], name: str) -> bool:
+    if not isinstance(said.get(name), bool):
+        raise BadInput(f"{name} is not true or false")
+    return bool(said[name])
+
+
+def _flag_or_none(said: Mapping[str, Any], name: str) -> Optional[bool]:
+    return None if name in said and said[name] is None else _flag(said, name)
+
+
+def _whole(said: Mapping[str, Any], name: str, most: int) -> int:
+    value = said.get(name)
+    if type(value) is not int or not 0 <= value <= most:
+        raise BadInput(f"{name} is not a whole number up to {most}")
+    return value
+
+
+def _time_or_none(said: Mapping[str, Any], name: str) -> Optional[int]:
+    return None if name in said and said[name] is None else _whole(said, name, _TIME)
+
+
+def _aaguid(value: bytes) -> bytes:
+    if len(value) != 16:
+        raise BadInput("aaguid is not of 16 bytes")
+    return value
+
+
+def _text_or_none(value: Optional[bytes]) -> Optional[str]:
+    return None if value is None else forms.to_text(value)
+
+
+def _members(value: Json, wanted: str) -> Mapping[str, Any]:
+    """The members of a session in JSON. That which only one kind has is wanted as a list."""
+    said = _object(value, "session")
+    if not isinstance(said.get(wanted), list):
+        raise BadInput(f"{wanted} is not an array")
+    _flag(said, "user_verification")
+    return said
 
 
 @dataclass(frozen=True)
@@ -49,17 +100,13 @@ class RegistrationSession:
                 "conditional": bool(self.conditional), "attestation": bool(self.attestation)}
 
     @classmethod
-    def from_json(cls, value: Union[str, Mapping[str, Any]]) -> "RegistrationSession":
+    def from_json(cls, value: Json) -> "RegistrationSession":
         """The session of what `to_json` gave, or of its text. Raises `BadInput`, also of a sign-in's."""
         said = _members(value, "algorithms")
-        if any(type(number) is not int or number not in (ES256, EDDSA, RS256) for number in said["algorithms"]):
-            raise BadInput("algorithms are ES256 (-7), EDDSA (-8) and RS256 (-257)")
         # An older session has neither.
-        conditional, attestation = said.get("conditional", False), said.get("attestation", True)
-        if not isinstance(conditional, bool) or not isinstance(attestation, bool):
-            raise BadInput("conditional and attestation are true or false")
-        return cls(forms.from_text(said.get("challenge"), "challenge"), forms.from_text(said.get("user"), "user"),
-                   said["user_verification"], tuple(said["algorithms"]), conditional, attestation)
+        said = {"conditional": False, "attestation": True, **said}
+        return cls(_bytes(said, "challenge"), _bytes(said, "user"), said["user_verification"], limits.check_algorithms(said["algorithms"]),
+                   _flag(said, "conditional"), _flag(said, "attestation"))
 
 
 @dataclass(frozen=True)
@@ -77,16 +124,23 @@ class SignInSession:
 
     def to_json(self) -> Dict[str, Any]:
         """The session as values of JSON; bytes in base64url."""
-        return {"challenge": forms.to_text(self.challenge), "user": None if self.user is None else forms.to_text(self.user),
+        return {"challenge": forms.to_text(self.challenge), "user": _text_or_none(self.user),
                 "allow": [forms.to_text(one) for one in self.allow], "user_verification": bool(self.user_verification)}
 
     @classmethod
-    def from_json(cls, value: Union[str, Mapping[str, Any]]) -> "SignInSession":
+    def from_json(cls, value: Json) -> "SignInSession":
         """The session of what `to_json` gave, or of its text. Raises `BadInput`, also of a registration's."""
         said = _members(value, "allow")
-        user = said.get("user")
-        return cls(forms.from_text(said.get("challenge"), "challenge"), None if user is None else forms.from_text(user, "user"),
-                   tuple(forms.from_text(one, "allow") for one in said["allow"]), said["user_verification"])
+        return cls(_bytes(said, "challenge"), _bytes_or_none(said, "user"), tuple(forms.from_text(one, "allow") for one in said["allow"]),
+                   said["user_verification"])
+
+
+def open_session(kind: Type[Open], value: Json) -> Open:
+    """The session of a row. Raises `BadInput`."""
+    session = kind.from_json(value)
+    if len(session.challenge) != 32:
+        raise BadInput("the challenge is not of 32 bytes")
+    return session
 
 
 @dataclass(frozen=True)
@@ -130,6 +184,63 @@ class Credential:
             raise BadInput("the key is out of its limits")
         return cose_key
 
+    def to_json(self) -> Dict[str, Any]:
+        """The credential as values of JSON; bytes in base64url."""
+        return {"id": forms.to_text(self.id), "user": forms.to_text(self.user), "algorithm": self.algorithm, "x": forms.to_text(self.x),
+                "y": forms.to_text(self.y), "sign_count": self.sign_count, "eligible": self.eligible, "retired": self.retired,
+                "transports": list(self.transports)}
+
+    @classmethod
+    def from_json(cls, value: Json) -> "Credential":
+        """The credential of what `to_json` gave, or of its text. Members of other names are passed over. Raises `BadInput`."""
+        return cls(*_credential_in(_object(value, "credential")))
+
+
+def _credential_in(said: Mapping[str, Any]) -> Tuple[bytes, bytes, int, bytes, bytes, int, Optional[bool], bool, Tuple[str, ...]]:
+    """The members of a credential in JSON, in the order of its fields."""
+    algorithm, x, y, transports = said.get("algorithm"), _bytes(said, "x"), _bytes(said, "y"), said.get("transports")
+    if type(algorithm) is not int:
+        raise BadInput("algorithm is not a number")
+    limits.check_key(algorithm, x, y)
+    kept = forms.transports_in(transports)
+    if not isinstance(transports, list) or list(kept) != transports:
+        raise BadInput("transports are not a list of texts, as [\"usb\"]")
+    return (limits.check_id(_bytes(said, "id"), "id"), limits.check_user(_bytes(said, "user")), algorithm, x, y,
+            _whole(said, "sign_count", limits.MAX_COUNT), _flag_or_none(said, "eligible"), _flag(said, "retired"), kept)
+
+
+@dataclass(frozen=True)
+class KeptCredential(Credential):
+    """A credential's row, and what is known of it. What was never kept is None."""
+
+    aaguid: Optional[bytes] = None
+    """The kind of the authenticator, by its own word: 16 bytes."""
+    backed_up: Optional[bool] = None
+    """Whether it was backed up at the last sign-in (BS); the file of `StoredServer` does not have it."""
+    created_at: Optional[int] = None
+    """When it was registered: seconds since 1970."""
+    used_at: Optional[int] = None
+    """When it signed in last: seconds since 1970; None where it never did."""
+
+    def to_json(self) -> Dict[str, Any]:
+        """The row as values of JSON; bytes in base64url."""
+        return {**super().to_json(), "aaguid": _text_or_none(self.aaguid), "backed_up": self.backed_up, "created_at": self.created_at,
+                "used_at": self.used_at}
+
+    @classmethod
+    def from_json(cls, value: Json) -> "KeptCredential":
+        """The row of what `to_json` gave, or of its text. Raises `BadInput`, also of a `Credential` alone."""
+        said = _object(value, "credential")
+        aaguid = _bytes_or_none(said, "aaguid")
+        return cls(*_credential_in(said), None if aaguid is None else _aaguid(aaguid), _flag_or_none(said, "backed_up"),
+                   _time_or_none(said, "created_at"), _time_or_none(said, "used_at"))
+
+
+def _told(accepted: Union["Registered", "SignedIn"]) -> Dict[str, Any]:
+    """What the authenticator said, as values of JSON."""
+    return {"user_verified": accepted.user_verified, "backed_up": accepted.backed_up, "flags": accepted.flags,
+            "extensions": forms.to_text(accepted.extensions)}
+
 
 @dataclass(frozen=True)
 class Registered:
@@ -151,15 +262,37 @@ class Registered:
     """The authenticator's extension outputs, one map of CBOR; none where there is none."""
 
 
+    def to_json(self) -> Dict[str, Any]:
+        """The registration as values of JSON; bytes in base64url."""
+        return {"credential": self.credential.to_json(), "aaguid": forms.to_text(self.aaguid), "format": self.format, **_told(self)}
+
+    @classmethod
+    def from_json(cls, value: Json) -> "Registered":
+        """The registration of what `to_json` gave, or of its text. Raises `BadInput`, also of a sign-in."""
+        said = _object(value, "registration")
+        form = said.get("format")
+        if not isinstance(form, str) or form not in library.FORMATS:
+            raise BadInput(f"format is one of {', '.join(library.FORMATS)}")
+        return cls(_credential_of(said, "credential"), _aaguid(_bytes(said, "aaguid")), form, _flag(said, "user_verified"),
+                   _flag(said, "backed_up"), _whole(said, "flags", 255), _bytes(said, "extensions"))
+
+
+def _credential_of(said: Mapping[str, Any], name: str) -> Credential:
+    value = said.get(name)
+    if not isinstance(value, Mapping):
+        raise BadInput(f"{name} is not an object")
+    return Credential.from_json(value)
+
+
 @dataclass(frozen=True)
 class SignedIn:
     """A sign-in that was accepted."""
 
     credential: Credential
-    """The credential as it is to be stored from now on: with the counter that was received."""
-    before: Credential
-    """The credential that the verdict was given for. Store the new one only where the stored one still has this counter
-    and isn't retired, in one transaction with the end of the session."""
+    """The credential with the counter that was received: of `Server` as it is to be stored from now on, of the others as it is stored."""
+    before: Optional[Credential]
+    """Of `Server` the credential that the verdict was given for. Store the new one only where the stored one still has this counter
+    and isn't retired, in one transaction with the end of the session. None of a server that has done so."""
     backed_up: bool
     """Whether it is backed up now (BS)."""
     user_verified: bool
@@ -168,3 +301,15 @@ class SignedIn:
     """The flags of the authenticator data, by their bits (WebAuthn Level 2, section 6.1)."""
     extensions: bytes
     """The authenticator's extension outputs, one map of CBOR; none where there is none."""
+
+    def to_json(self) -> Dict[str, Any]:
+        """The sign-in as values of JSON; bytes in base64url."""
+        return {"credential": self.credential.to_json(), "before": None if self.before is None else self.before.to_json(), **_told(self)}
+
+    @classmethod
+    def from_json(cls, value: Json) -> "SignedIn":
+        """The sign-in of what `to_json` gave, or of its text. Raises `BadInput`, also of a registration."""
+        said = _object(value, "sign-in")
+        before = None if "before" in said and said["before"] is None else _credential_of(said, "before")
+        return cls(_credential_of(said, "credential"), before, _flag(said, "backed_up"), _flag(said, "user_verified"),
+                   _whole(said, "flags", 255), _bytes(said, "extensions"))

@@ -3,7 +3,7 @@ from __future__ import annotations
 
 import secrets
 from dataclasses import fields
-from typing import Any, Awaitable, Callable, Dict, Mapping, Optional, Sequence, Tuple, Union
+from typing import Any, Awaitable, Callable, Dict, Mapping, Optional, Sequence, Tuple, Type, TypeVar, Union
 
 from . import _passkey, answers, forms, library, limits, options
 from .answers import Verify
@@ -11,6 +11,8 @@ from .errors import BadInput, Refused
 from .library import EDDSA, ES256, RS256
 from .options import Ids, Requirement
 from .records import Credential, Registered, RegistrationSession, SignedIn, SignInSession
+
+Open = TypeVar("Open", RegistrationSession, SignInSession)
 
 _MEMBERS = tuple(field.name for kind in (Credential, SignedIn) for field in fields(kind))
 _NO_REGISTRATION = RegistrationSession(b"", b"")
@@ -43,6 +45,15 @@ def _credential(found: Any) -> Optional[Credential]:
     if found is not None and not isinstance(found, Credential):
         answers.refuse("credential", found, "a Credential or None")
     return found
+
+
+def _open(session: Any, kind: Type[Open]) -> Optional[Open]:
+    """The session that is open, or None. A text is none: the page's visitor may have written it."""
+    if session is None or isinstance(session, str):
+        return None
+    if not isinstance(session, kind):
+        raise TypeError(f"session is a {kind.__name__} or None, and not {answers.kind_of(session)}: {kind.__name__}.from_json reads one that was kept as JSON")
+    return session
 
 
 class Server:
@@ -88,15 +99,15 @@ class Server:
     # ---- registration
 
     def register_begin(self, user: bytes, user_name: str, display_name: Optional[str] = None, *, exclude: Ids = (),
-                       user_verification: Requirement = False, resident: Requirement = True,
-                       algorithms: Sequence[int] = (ES256, EDDSA, RS256), attachment: Optional[str] = None,
+                       user_verification: Requirement = False, resident_key: Requirement = True,
+                       algorithms: Sequence[int] = (ES256, EDDSA, RS256), authenticator_attachment: Optional[str] = None,
                        attestation: str = "none", conditional: bool = False, timeout: Optional[int] = None, hints: Sequence[str] = (),
                        extensions: Optional[Mapping[str, Any]] = None) -> Tuple[Dict[str, Any], RegistrationSession]:
         """PublicKeyCredentialCreationOptionsJSON for the page, and the session that the site keeps (WebAuthn Level 2, section 5.4).
 
         `user` is the user handle, 1 to 64 bytes that name nobody; `exclude` are the account's credentials or their ids, 64 at most.
-        `user_verification` is true (`required`), false (`preferred`) or `discouraged`; `resident` is true (`required`), false
-        (`discouraged`) or `preferred`. `attachment` is `platform` or `cross-platform`, `attestation` `none`, `indirect`, `direct` or
+        `user_verification` is true (`required`), false (`preferred`) or `discouraged`; `resident_key` is true (`required`), false
+        (`discouraged`) or `preferred`. `authenticator_attachment` is `platform` or `cross-platform`, `attestation` `none`, `indirect`, `direct` or
         `enterprise`; `conditional` is for a page that lets the browser make a passkey by itself after another sign-in (Level 3,
         section 5.1.3, `mediation`): then nobody need be present. Both are looked at in the profile `level3`. `timeout` is milliseconds, `hints` a list of
         `security-key`, `client-device` and `hybrid`; `extensions` are handed on to the page. Raises `BadInput`.
@@ -104,7 +115,7 @@ class Server:
         listed = limits.check_list(exclude, "exclude", "credentials or their ids")
         verification = options.user_verification_of(user_verification)
         options.ids_of(listed, "exclude")
-        more = options.of_creation(verification, resident, attachment, attestation, timeout, hints, extensions)
+        more = options.of_creation(verification, resident_key, authenticator_attachment, attestation, timeout, hints, extensions)
         session = RegistrationSession(secrets.token_bytes(32), limits.check_user(user), verification == "required",
                                       limits.check_algorithms(algorithms), limits.check_flag(conditional, "conditional"),
                                       attestation != "none")
@@ -114,26 +125,28 @@ class Server:
                           is_registered: Callable[[bytes], bool], is_full: bool = False) -> Registered:
         """What a RegistrationResponseJSON registers: the credential, to be stored, and what is known of it.
 
-        `session` is None where none is open. `is_registered(id)` tells whether a credential has the id, to anyone,
+        `session` is None where none is open; a text counts as None. `is_registered(id)` tells whether a credential has the id, to anyone,
         retired or not. Raises `Refused` with the first step that is not passed, `BadInput` where the response is not
         in the form of JSON.
         """
+        begun = _open(session, RegistrationSession)
         parts, transports = forms.registration_parts(response), forms.transports_of(response)
         is_taken = answers.is_true("is_registered", is_registered(parts[0]))
-        return self._registered(session, is_taken, parts, is_full, transports, answers.waiting(self.verify))
+        return self._registered(begun, is_taken, parts, is_full, transports, answers.waiting(self.verify))
 
     async def register_complete_async(self, session: Optional[RegistrationSession], response: Mapping[str, Any], *,
                                       is_registered: Callable[[bytes], Union[bool, Awaitable[bool]]],
                                       is_full: bool = False) -> Registered:
         """The same, where what `is_registered` and `verify` give is awaited, if it can be."""
+        begun = _open(session, RegistrationSession)
         parts, transports = forms.registration_parts(response), forms.transports_of(response)
         is_taken = answers.is_true("is_registered", await answers.awaited(is_registered(parts[0])))
-        return await answers.judged(self.verify, lambda verify: self._registered(session, is_taken, parts, is_full, transports, verify))
+        return await answers.judged(self.verify, lambda verify: self._registered(begun, is_taken, parts, is_full, transports, verify))
 
     def register_complete_parts(self, session: Optional[RegistrationSession], attestation_object: bytes, client_data: bytes, *,
                                 raw_id: bytes, is_registered: bool, is_full: bool = False, transports: Sequence[str] = ()) -> Registered:
         """The same of the response's parts. `raw_id` is the response's `rawId`, and `is_registered` says whether a credential has it."""
-        return self._registered(session, limits.check_flag(is_registered, "is_registered"), (raw_id, client_data, attestation_object), is_full,
+        return self._registered(_open(session, RegistrationSession), limits.check_flag(is_registered, "is_registered"), (raw_id, client_data, attestation_object), is_full,
                                 transports, answers.waiting(self.verify))
 
     def _registered(self, session: Optional[RegistrationSession], is_taken: bool, parts: forms.RegistrationParts, is_full: bool,
@@ -175,25 +188,27 @@ class Server:
                               credential: Callable[[bytes], Optional[Credential]]) -> SignedIn:
         """Who signed in, of an AuthenticationResponseJSON: the credential as it is to be stored from now on.
 
-        `session` is None where none is open. `credential(id)` answers the site's credential of the id, or None. Raises
+        `session` is None where none is open; a text counts as None. `credential(id)` answers the site's credential of the id, or None. Raises
         `Refused` with the first step that is not passed, `BadInput` where the response is not in the form of JSON.
         """
+        begun = _open(session, SignInSession)
         parts = forms.sign_in_parts(response)
-        return self._signed_in(session, _credential(credential(parts[0])), parts, answers.waiting(self.verify))
+        return self._signed_in(begun, _credential(credential(parts[0])), parts, answers.waiting(self.verify))
 
     async def authenticate_complete_async(
             self, session: Optional[SignInSession], response: Mapping[str, Any], *,
             credential: Callable[[bytes], Union[None, Credential, Awaitable[Optional[Credential]]]]) -> SignedIn:
         """The same, where what `credential` and `verify` give is awaited, if it can be."""
+        begun = _open(session, SignInSession)
         parts = forms.sign_in_parts(response)
         found = _credential(await answers.awaited(credential(parts[0])))
-        return await answers.judged(self.verify, lambda verify: self._signed_in(session, found, parts, verify))
+        return await answers.judged(self.verify, lambda verify: self._signed_in(begun, found, parts, verify))
 
     def authenticate_complete_parts(self, session: Optional[SignInSession], credential: Optional[Credential],
                                     raw_id: bytes, user: Optional[bytes], auth_data: bytes, signature: bytes,
                                     client_data: bytes) -> SignedIn:
         """The same of the response's parts and the credential that was found."""
-        return self._signed_in(session, credential, (raw_id, client_data, auth_data, signature, user), answers.waiting(self.verify))
+        return self._signed_in(_open(session, SignInSession), credential, (raw_id, client_data, auth_data, signature, user), answers.waiting(self.verify))
 
     def _signed_in(self, session: Optional[SignInSession], credential: Optional[Credential], parts: forms.SignInParts,
                    verify: Verify) -> SignedIn:

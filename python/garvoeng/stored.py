@@ -9,7 +9,6 @@ import os
 import subprocess
 import threading
 from collections import deque
-from dataclasses import dataclass
 from subprocess import PIPE
 from typing import Any, Deque, Dict, List, Mapping, Optional, Sequence, Tuple, Union
 from weakref import WeakSet
@@ -20,11 +19,13 @@ from .broker import MAX_LINE, Connection
 from .errors import BadInput, Refused
 from .library import EDDSA, ES256, RS256
 from .options import Ids, Requirement
-from .records import Credential, Registered
+from .records import Credential, KeptCredential, Registered, SignedIn
 from .server import verify_of
 
 
 _log = logging.getLogger("garvoeng")
+_ELIGIBLE = 0x08
+"""The flag BE: a sign-in whose flag is another than the row's is refused by W16."""
 _ENDING = 5.0
 """How many seconds may pass until what a program that has ended told is read."""
 
@@ -35,40 +36,8 @@ class StoreFailed(Exception):
     site that the file holds."""
 
 
-@dataclass(frozen=True)
-class StoredSignIn:
-    """A sign-in that was accepted. It is in the file already."""
-
-    credential: bytes
-    """The credential's id."""
-    user: bytes
-    """The user handle."""
-    backed_up: bool
-    """Whether the credential is backed up now (BS)."""
-    user_verified: bool
-    """Whether the user was verified (UV)."""
-    sign_count: int
-    """The signature counter that was received."""
-    flags: int
-    """The flags of the authenticator data, by their bits (WebAuthn Level 2, section 6.1)."""
-    extensions: bytes
-    """The authenticator's extension outputs, one map of CBOR; none where there is none."""
-
-
 def _extensions(accepted: Mapping[str, Any]) -> bytes:
     return forms.from_text(accepted["extensions"] or "", "extensions")
-
-
-@dataclass(frozen=True)
-class KeptCredential(Credential):
-    """A credential of the file, and what is known of it. A row that was made before these were kept has None and no transports."""
-
-    aaguid: Optional[bytes] = None
-    """The kind of the authenticator, by its own word: 16 bytes."""
-    created_at: Optional[int] = None
-    """When it was registered: seconds since 1970."""
-    used_at: Optional[int] = None
-    """When it signed in last: seconds since 1970."""
 
 
 def _parts(row: Mapping[str, Any]) -> Tuple[bytes, bytes, int, bytes, bytes, int, bool, bool]:
@@ -80,7 +49,7 @@ def _parts(row: Mapping[str, Any]) -> Tuple[bytes, bytes, int, bytes, bytes, int
 def _kept(row: Mapping[str, Any]) -> KeptCredential:
     aaguid = row["aaguid"]
     return KeptCredential(*_parts(row), forms.transports_in(row["transports"]),
-                          None if aaguid is None else forms.from_text(aaguid, "aaguid"), row["created_at"], row["used_at"])
+                          None if aaguid is None else forms.from_text(aaguid, "aaguid"), None, row["created_at"], row["used_at"])
 
 
 def _named(credential: bytes) -> str:
@@ -255,7 +224,7 @@ class StoredServer:
     `existing`. `known` is to be kept elsewhere: with it as `at_least` each copy of the file that lacks the last change is refused.
     With `wary` each commit flushes twice, for disks that may leave any bytes of a write that is cut off. Calls come from any
     thread. Where the program has ended, the next call starts it again; one that does not answer in `timeout` seconds is
-    ended. A session ends by itself `expire` seconds after it began; the program may have ended meanwhile. `max_credentials`
+    ended. A session ends by itself `lifetime` seconds after it began; the program may have ended meanwhile. `max_credentials`
     is the most credentials; both are from 1 to 1,000,000. With `log` each refusal is told, and with `log="all"` each acceptance
     and each error too; all that the program tells goes to the logger `garvoeng` of `logging`. With `shared`, which is for Linux, all processes of this user that name
     the same file and the same parameters share one program, by a Unix socket that nobody else can open; it ends two seconds
@@ -266,7 +235,7 @@ class StoredServer:
     def __init__(self, program: str, file: str, rp_id: str, origins: Sequence[str], rp_name: Optional[str] = None, *,
                  accept_none: bool = True, accept_self: bool = True, profile: str = "level3", top_origins: Sequence[str] = (),
                  max_credentials: int = 1_000_000, existing: bool = False, at_least: int = 0, wary: bool = False,
-                 log: Union[bool, str] = False, expire: int = 300, timeout: float = 30.0,
+                 log: Union[bool, str] = False, lifetime: int = 300, timeout: float = 30.0,
                  shared: bool = False, verify: Optional[Verify] = None) -> None:
         origins = limits.check_party(rp_id, origins)
         limits.check_profile(profile)
@@ -279,7 +248,7 @@ class StoredServer:
         attestation = "any" if accept_none and accept_self else "none" if accept_none else "self"
         self._words = [program, f"--rp-id={rp_id}", f"--rp-name={rp_id if rp_name is None else rp_name}",
                        "--profile", profile, "--attestation", attestation,
-                       f"--max-credentials={max_credentials}", f"--expire={expire}",
+                       f"--max-credentials={max_credentials}", f"--expire={limits.check_lifetime(lifetime)}",
                        *(f"--origin={origin}" for origin in origins),
                        *(f"--top-origin={origin}" for origin in limits.check_top_origins(top_origins)),
                        *(["--existing"] if existing else []),
@@ -352,10 +321,10 @@ class StoredServer:
     def _listed(self, ids: Ids, what: str) -> List[str]:
         return [forms.to_text(one) for one in options.ids_of(ids, what, self._most_listed)]
 
-    def _finish(self, act: str, session: Optional[str], response: Dict[str, Any], **more: Any) -> Dict[str, Any]:
-        """What was accepted. The program tells the signature that is asked for; where it is valid it is handed back, and
-        else it is told that it is not, so that its log has the refusal."""
-        text = forms.sealed(session)
+    def _finish(self, act: str, session: Optional[str], response: Dict[str, Any], **more: Any) -> Tuple[Dict[str, Any], Dict[str, Any]]:
+        """What was accepted, and what was verified for it. The program tells the signature that is asked for; where it is valid it is
+        handed back, and else it is told that it is not, so that its log has the refusal."""
+        text, asked = forms.sealed(session), {}
         answer = self._ask(act, session=text, response=response, **more)
         if "verify" in answer:
             asked = answer["verify"]
@@ -364,14 +333,16 @@ class StoredServer:
             answer = self._ask(act, session=text, response=response, verified=asked if is_valid else False, **more)
         if "refused" in answer:
             raise Refused(act == "finish_registration", answer["refused"]["number"], answer["refused"]["text"])
-        accepted: Dict[str, Any] = answer["accepted"]
-        return accepted
+        # A sign-in is accepted for a signature that was verified here, and for nothing else.
+        if "accepted" not in answer or not (asked or act == "finish_registration"):
+            raise StoreFailed("the program answered what is no verdict")
+        return answer["accepted"], asked
 
     # ---- registration
 
     def register_begin(self, user: bytes, user_name: str, display_name: Optional[str] = None, *, exclude: Optional[Ids] = None,
-                       user_verification: Requirement = False, resident: Requirement = True,
-                       algorithms: Sequence[int] = (ES256, EDDSA, RS256), attachment: Optional[str] = None,
+                       user_verification: Requirement = False, resident_key: Requirement = True,
+                       algorithms: Sequence[int] = (ES256, EDDSA, RS256), authenticator_attachment: Optional[str] = None,
                        attestation: str = "none", conditional: bool = False, timeout: Optional[int] = None, hints: Sequence[str] = (),
                        extensions: Optional[Mapping[str, Any]] = None) -> Tuple[Dict[str, Any], str]:
         """PublicKeyCredentialCreationOptionsJSON for the page, and the session, a text that only this visitor may have.
@@ -382,7 +353,7 @@ class StoredServer:
         handle = limits.check_user(user)
         named = options.user_entity(handle, user_name, display_name)
         verification = options.user_verification_of(user_verification)
-        more = options.of_creation(verification, resident, attachment, attestation, timeout, hints, extensions)
+        more = options.of_creation(verification, resident_key, authenticator_attachment, attestation, timeout, hints, extensions)
         how = {"algorithms": list(limits.check_algorithms(algorithms)), "conditional": limits.check_flag(conditional, "conditional"),
                "attestation": attestation != "none"}
         listed = options.fitting(self._own(handle), self._most_listed) if exclude is None else exclude
@@ -400,9 +371,10 @@ class StoredServer:
         """What a RegistrationResponseJSON registers: the credential, which is in the file, and what is known of it. In the profile
         `level3`, `format` is `none` where no attestation was asked for. Raises `Refused` with the first step that is not passed, of which
         the first is that the session is open, `BadInput` where the response is not in the form of JSON."""
+        text = limits.check_session(session)
         raw_id, client_data, attestation_object = forms.registration_parts(response)
         transports = forms.transports_in(response["response"].get("transports"))
-        made = self._finish("finish_registration", session, _handed_on(
+        made, _ = self._finish("finish_registration", text, _handed_on(
             raw_id, attestationObject=attestation_object, clientDataJSON=client_data), transports=list(transports))
         return Registered(Credential(*_parts(made), transports), forms.from_text(made["aaguid"], "aaguid"), made["format"],
                           made["user_verified"], made["backed_up"], made["flags"], _extensions(made))
@@ -426,7 +398,7 @@ class StoredServer:
         verification = options.user_verification_of(user_verification)
         more = options.of_request(verification, timeout, hints, extensions)
         own = self._own(handle) if allow is None and handle is not None else []
-        listed = allow if allow is not None else own if len(options.fitting(own, self._most_listed)) == len(own) else []
+        listed = options.allowed(own, self._most_listed) if allow is None else allow
         answer = self._ask("begin_sign_in", user=None if handle is None else forms.to_text(handle), allow=self._listed(listed, "allow"),
                            user_verification=verification == "required")
         return {**answer["options"], **more}, answer["session"]
@@ -435,29 +407,41 @@ class StoredServer:
         """The same, awaited as `register_begin_async`."""
         return await in_thread(self.authenticate_begin, **how)
 
-    def authenticate_complete(self, session: Optional[str], response: Mapping[str, Any]) -> StoredSignIn:
+    def authenticate_complete(self, session: Optional[str], response: Mapping[str, Any]) -> SignedIn:
         """Who signed in, of an AuthenticationResponseJSON; the counter is in the file, and the session closed. Raises as
         `register_complete`."""
+        text = limits.check_session(session)
         raw_id, client_data, data, signature, user = forms.sign_in_parts(response)
-        who = self._finish("finish_sign_in", session, _handed_on(
+        who, asked = self._finish("finish_sign_in", text, _handed_on(
             raw_id, userHandle=user, authenticatorData=data, signature=signature, clientDataJSON=client_data))
-        return StoredSignIn(forms.from_text(who["credential"], "credential"), forms.from_text(who["user"], "user"),
-                            who["backed_up"], who["user_verified"], who["sign_count"], who["flags"], _extensions(who))
+        identity, handle = forms.from_text(who["credential"], "credential"), forms.from_text(who["user"], "user")
+        # Where the credential was deleted meanwhile its transports are gone.
+        told = [row.transports for row in self.rows(handle) if row.id == identity] or [()]
+        credential = Credential(identity, handle, asked["algorithm"], forms.from_text(asked["x"], "x"), forms.from_text(asked["y"], "y"),
+                                who["sign_count"], bool(who["flags"] & _ELIGIBLE), False, told[0])
+        return SignedIn(credential, None, who["backed_up"], who["user_verified"], who["flags"], _extensions(who))
 
-    async def authenticate_complete_async(self, session: Optional[str], response: Mapping[str, Any]) -> StoredSignIn:
+    async def authenticate_complete_async(self, session: Optional[str], response: Mapping[str, Any]) -> SignedIn:
         """The same, awaited as `register_begin_async`."""
         return await in_thread(self.authenticate_complete, session, response)
 
     # ---- sessions and credentials
 
-    def retire(self, credential: bytes) -> bool:
-        """A credential signs in no more, and its user's open registrations end; whether it did until now."""
-        return bool(self._ask("retire", credential=_named(credential))["retired"])
+    def _is_of(self, credential: bytes, user: Optional[bytes]) -> bool:
+        """Whether a user has the credential; without one there is nothing to ask. Whose it is never changes but by its deletion."""
+        return user is None or any(row.id == credential for row in self.rows(user))
 
-    def delete(self, credential: bytes) -> bool:
-        """A credential is forgotten, with all that is known of it, and its id may be registered again; its user's open registrations end.
-        Whether it was there."""
-        return bool(self._ask("delete", credential=_named(credential))["deleted"])
+    def retire(self, credential: bytes, *, user: Optional[bytes] = None) -> bool:
+        """A credential signs in no more, and its id stays taken; whether it did until now. Its user's open registrations end. With `user`
+        one of another account is left as it is."""
+        name = _named(credential)
+        return self._is_of(credential, user) and bool(self._ask("retire", credential=name)["retired"])
+
+    def delete(self, credential: bytes, *, user: Optional[bytes] = None) -> bool:
+        """A credential is forgotten, and its id may be registered again, by anybody; whether it was there. Its user's open registrations
+        end. `user` is as in `retire`."""
+        name = _named(credential)
+        return self._is_of(credential, user) and bool(self._ask("delete", credential=name)["deleted"])
 
     def retire_all(self, user: bytes) -> int:
         """A user's credentials sign in no more, and his open registrations end; how many did until now."""
@@ -467,13 +451,9 @@ class StoredServer:
         """A user's credentials are forgotten at once, and his open registrations end; how many they were."""
         return int(self._ask("erase", user=forms.to_text(limits.check_user(user)))["erased"])
 
-    def delete_account(self, user: bytes) -> int:
-        """As `erase`."""
-        return self.erase(user)
-
     def abandon(self, session: Optional[str]) -> bool:
         """A session ends; whether it was open."""
-        return bool(self._ask("abandon", session=forms.sealed(session))["abandoned"])
+        return bool(self._ask("abandon", session=forms.sealed(limits.check_session(session)))["abandoned"])
 
     def rows(self, user: Optional[bytes] = None) -> List[KeptCredential]:
         """The credentials of a user, or all, in order of registration, with what is known of each."""

@@ -32,7 +32,7 @@ def test_registers_and_signs_in(kind, alg, monkeypatch):
     key, _, site = plugged(**kind, packed=True, algorithms=(alg,))
     with site.client:
         for resident in (True, False):
-            made = site.register(resident=resident)
+            made = site.register(resident_key=resident)
             assert made.user_verified and made.credential.algorithm == alg and made.format == "packed"
             assert made.credential.transports == ("usb",)
             done = site.sign_in(allow=[made.credential.id])
@@ -158,8 +158,8 @@ def test_discouraged_with_a_pin():
     for not_required, times in ((None, 2), (True, 1)):
         _, _, site = plugged(uv_not_required=not_required, how={"pin": lambda retries, wrong: asked.append(retries) or PIN})
         with site.client:
-            site.register(user_verification="discouraged", resident=True)
-            made = site.register(user_verification="discouraged", resident=False)
+            site.register(user_verification="discouraged", resident_key=True)
+            made = site.register(user_verification="discouraged", resident_key=False)
             assert len(asked) == times and made.user_verified == (times == 2)
             assert not site.sign_in(user_verification="discouraged", allow=[made.credential.id]).user_verified and len(asked) == times
         asked.clear()

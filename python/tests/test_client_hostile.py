@@ -76,7 +76,7 @@ def test_each_byte_turned(act, by, soon, monkeypatch):
     key, cable, site = plugged(**KIND, change=turn)
     with site.client as one:
         made = site.register()
-        call = (lambda: site.register(resident=False)) if act == "register" else (lambda: site.sign_in(allow=[made.credential.id]))
+        call = (lambda: site.register(resident_key=False)) if act == "register" else (lambda: site.sign_in(allow=[made.credential.id]))
         count, one.timeout = turn.packets(call)
         found = {}
         for place in range(64 * count):

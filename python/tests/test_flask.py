@@ -73,12 +73,12 @@ def test_hostile_cookies(tmp_path, caplog):
 
 
 def test_how_long_a_visitor_is_signed_in(tmp_path, monkeypatch):
-    from garvoeng import sql
+    from garvoeng import sql_rows
     site = FlaskSite(tmp_path, fresh=100, signed_in_for=1000)
     visitor = site.visitor()
     registered(visitor, device())
     for ahead, listed, begun in ((50, 200, 200), (150, 200, 401), (900, 200, 401), (1001, 401, 200)):
-        monkeypatch.setattr(sql, "time", Later(ahead))
+        monkeypatch.setattr(sql_rows, "time", Later(ahead))
         assert (visitor("list")[0], visitor("register/begin", {"name": "ada"})[0]) == (listed, begun)
 
 

@@ -1,4 +1,5 @@
 """What hosts, visitors and other processes do to the package."""
+import json
 import multiprocessing
 import pickle
 from collections import UserDict
@@ -236,3 +237,24 @@ def test_limits():
     with pytest.raises(Refused) as caught:
         server.authenticate_complete(session, response, credential=lambda _: last)
     assert caught.value.name == "W15"
+
+
+def test_what_is_no_session():
+    """A text counts as none, whatever it says, since the page's visitor may have written it; another kind of value is the site's slip."""
+    server, device = Server(RP_ID, [ORIGIN]), Device()
+    options, registration = server.register_begin(USER, "name")
+    made = device.register(options)
+    credential = server.register_complete(registration, made, is_registered=lambda _: False).credential
+    asked, session = server.authenticate_begin(user=USER)
+    response = device.sign_in(asked)
+    calls = ((lambda begun: server.register_complete(begun, made, is_registered=lambda _: False), "G1", "RegistrationSession", registration, session),
+             (lambda begun: server.authenticate_complete(begun, response, credential=lambda _: credential), "W1", "SignInSession", session, registration))
+    for call, name, kind, own, other in calls:
+        for text in (None, "", "text", json.dumps(own.to_json()), json.dumps(other.to_json())):
+            with pytest.raises(Refused) as caught:
+                call(text)
+            assert caught.value.name == name
+        for wrong in (other, own.to_json(), b"", b"text", 0, 7, True, [own], (own,), object(), Server):
+            with pytest.raises(TypeError, match=f"session is a {kind} or None, and not .*: {kind}.from_json reads one that was kept as JSON"):
+                call(wrong)
+        assert call(own).credential.id == device.id

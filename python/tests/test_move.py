@@ -53,17 +53,17 @@ def test_what_a_row_says(server):
         device, said = Device(credential=bytes([size % 251]) * size), []
         device.count = 2**32 - 2
         assert move.moved(move.of_fido2, server, io.StringIO(json.dumps(fido2_row(device, transports=["usb", "nfc"]))), said.append), said
-        [row] = [row for row in server.credentials(USER) if row.credential.id == device.id]
-        assert (row.credential.eligible, row.backed_up, row.aaguid, row.used_at) == (None, None, device.aaguid, None)
-        assert (row.credential.sign_count, row.credential.transports, row.credential.cose_key) == (2**32 - 2, ("usb", "nfc"), device.cose_key())
+        [row] = [row for row in server.rows(USER) if row.id == device.id]
+        assert (row.eligible, row.backed_up, row.aaguid, row.used_at) == (None, None, device.aaguid, None)
+        assert (row.sign_count, row.transports, row.cose_key) == (2**32 - 2, ("usb", "nfc"), device.cose_key())
     for number, (kind, backed_up, eligible) in enumerate((("single_device", False, False), ("multi_device", False, True), ("multi_device", True, True),
                                                           (None, None, None))):
         device = Device(credential=b"of py_webauthn %d" % number)
         text = json.dumps(py_webauthn_row(device, credential_device_type=kind, credential_backed_up=backed_up, transports=["internal", "hybrid"]))
         assert move.moved(move.of_py_webauthn, server, io.StringIO(text), [].append)
-        [row] = [row for row in server.credentials(USER) if row.credential.id == device.id]
-        assert (row.credential.eligible, row.backed_up, row.aaguid) == (eligible, backed_up, None)
-        assert row.credential.transports == ("internal", "hybrid")
+        [row] = [row for row in server.rows(USER) if row.id == device.id]
+        assert (row.eligible, row.backed_up, row.aaguid) == (eligible, backed_up, None)
+        assert row.transports == ("internal", "hybrid")
 
 
 @pytest.mark.parametrize("kind, row_of", [("fido2", fido2_row), ("py_webauthn", py_webauthn_row)])

@@ -12,7 +12,7 @@ from garvoeng.forms import to_text
 
 def test_creation_options():
     options, session = party().register_begin(
-        USER, "name", user_verification="discouraged", resident="preferred", attachment="cross-platform", timeout=60_000,
+        USER, "name", user_verification="discouraged", resident_key="preferred", authenticator_attachment="cross-platform", timeout=60_000,
         hints=["security-key", "hybrid"], extensions={"credProps": True})
     assert options["authenticatorSelection"] == {"residentKey": "preferred", "requireResidentKey": False, "userVerification": "discouraged",
                                                  "authenticatorAttachment": "cross-platform"}
@@ -25,7 +25,7 @@ def test_creation_options():
         options, session = party().authenticate_begin(user_verification=value)
         assert (options["userVerification"], session.user_verification) == (wanted, asked)
     for value, wanted in ((True, "required"), (False, "discouraged"), ("discouraged", "discouraged"), ("required", "required")):
-        selection = party().register_begin(USER, "name", resident=value)[0]["authenticatorSelection"]
+        selection = party().register_begin(USER, "name", resident_key=value)[0]["authenticatorSelection"]
         assert (selection["residentKey"], selection["requireResidentKey"]) == (wanted, wanted == "required")
         assert "authenticatorAttachment" not in selection
 
@@ -44,8 +44,8 @@ def test_request_options():
 REQUIREMENTS = (True, False, "required", "preferred", "discouraged")
 NONE = ("Required", "", 7, [], "none", b"required")
 VALUES_OF_OPTIONS = [
-    ("user_verification", REQUIREMENTS, (*NONE, None)), ("resident", REQUIREMENTS, (*NONE, None)),
-    ("attachment", ("platform", "cross-platform", None), NONE),
+    ("user_verification", REQUIREMENTS, (*NONE, None)), ("resident_key", REQUIREMENTS, (*NONE, None)),
+    ("authenticator_attachment", ("platform", "cross-platform", None), NONE),
     ("timeout", (1, 2**32 - 1, None), (0, -1, 2**32, 2**64 + 1, 1.0, "1", True)),
     ("hints", ([], (), ["hybrid"], ["security-key", "client-device"]), (["Hybrid"], [None], [7], ["hybrid", "other"])),
     ("extensions", (None, {}, {"a": 1}, {"a": [1.5, None, True, {"b": "x"}]}),
@@ -60,7 +60,7 @@ def test_values_of_options(name, good, bad):
     for value in bad:
         with pytest.raises(BadInput):
             party().register_begin(USER, "name", **{name: value})
-        if name not in ("resident", "attachment"):
+        if name not in ("resident_key", "authenticator_attachment"):
             with pytest.raises(BadInput):
                 party().authenticate_begin(**{name: value})
 
@@ -129,6 +129,12 @@ def test_sessions_in_json():
         with pytest.raises(BadInput):
             other.from_json(session.to_json())
         for name in session.to_json():
+            without = {key: one for key, one in session.to_json().items() if key != name}
+            if name in ("conditional", "attestation"):
+                assert kind.from_json(without).challenge == session.challenge
+            else:
+                with pytest.raises(BadInput):
+                    kind.from_json(without)
             for value in (None, 7, "A", "=", [7], ["A"], {}, "AA==", True, "required", 1, [None], [True]):
                 hostile = {**session.to_json(), name: value}
                 try:
@@ -136,6 +142,9 @@ def test_sessions_in_json():
                 except BadInput:
                     continue
                 assert read.to_json() == hostile
+    for algorithms in ([], {}, "-7", None):
+        with pytest.raises(BadInput):
+            RegistrationSession.from_json({**RegistrationSession(bytes(32), USER).to_json(), "algorithms": algorithms})
     for number in (7, -9, -37, 2**32 - 7, -7.0, True):
         with pytest.raises(BadInput):
             RegistrationSession.from_json({**RegistrationSession(bytes(32), USER).to_json(), "algorithms": [-7, number]})

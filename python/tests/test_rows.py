@@ -81,7 +81,7 @@ def test_rows_that_are_damaged(site, connect, caplog):
 
 
 def test_what_ends_with_a_passkey(site, connect):
-    """Retired: the open registrations of the account. Deleted: all that it has begun. And with the account each that is signed in."""
+    """Retired or deleted: the open registrations of the account. With all of its passkeys: all that it has begun, and each that is signed in."""
     mine, theirs = Device(credential=b"mine"), Device(credential=b"theirs")
     for device, user in ((mine, USER), (theirs, OTHER)):
         registered(site, device, user)
@@ -89,21 +89,22 @@ def test_what_ends_with_a_passkey(site, connect):
     def opened(user):
         return (site.register_begin(user, "name")[1], site.authenticate_begin(user=user)[1], site.keep_sign_in(user))
 
-    for end, keeps in (("retire", 1), ("delete", 2), ("delete_account", 3)):
+    for end in ("retire", "retire_all", "delete", "erase"):
         run(connect, "delete from garvoeng_session")
         registration, sign_in, kept = opened(USER)
         others = {*opened(OTHER), site.authenticate_begin()[1]}
         assert not (site.retire(mine.id, user=OTHER) or site.delete(mine.id, user=OTHER) or site.retire(b"none") or site.delete(b"none"))
-        assert site.delete_account(b"nobody") == 0 and sessions(connect) == {registration, sign_in, kept} | others
-        if end == "delete_account":
-            assert site.delete_account(USER) == 1 and site.rows(USER) == [] and len(site.rows()) == 1
+        assert site.erase(b"nobody") == site.retire_all(b"nobody") == 0 and sessions(connect) == {registration, sign_in, kept} | others
+        if end == "erase":
+            assert site.erase(USER) == 1 and site.rows(USER) == [] and len(site.rows()) == 1
         else:
-            assert getattr(site, end)(mine.id) and [row.retired for row in site.rows(USER)] == ([True] if end == "retire" else [])
-        assert sessions(connect) == {"retire": {sign_in, kept}, "delete": {kept}, "delete_account": set()}[end] | others
+            assert getattr(site, end)(USER if end == "retire_all" else mine.id)
+            assert [row.retired for row in site.rows(USER)] == ([] if end == "delete" else [True])
+        assert sessions(connect) == (set() if end == "erase" else {sign_in, kept}) | others
         with pytest.raises(Refused, match="G1 "):
             site.register_complete(registration, Device(credential=b"x").register({"challenge": "AA"}))
-        if end == "retire":
-            assert not site.retire(mine.id) and site.delete(mine.id)
+        if end.startswith("retire"):
+            assert not site.retire(mine.id) and site.retire_all(USER) == 0 and site.delete(mine.id)
         registered(site, mine)
 
 
@@ -112,7 +113,7 @@ def test_a_session_that_only_names_a_user_stays(site, connect):
     registered(site, Device())
     _, session = site.authenticate_begin(allow=[USER])
     run(connect, f"insert into garvoeng_session values ('x', '\"{to_text(USER)}\"', {int(time.time()) + 99})")
-    assert site.delete_account(USER) == 1 and sessions(connect) == {session, "x"}
+    assert site.erase(USER) == 1 and sessions(connect) == {session, "x"}
 
 
 def test_who_is_signed_in(site, connect):
@@ -173,7 +174,7 @@ def test_an_account_that_is_deleted_meanwhile(site):
             begun.append((session, Device(credential=b"%d" % number).register(options)))
         with ThreadPoolExecutor(6) as pool:
             calls = [lambda pair=pair: outcome(lambda: site.register_complete(*pair)) for pair in begun]
-            calls[2:2] = [lambda: site.delete_account(USER)]
+            calls[2:2] = [lambda: site.erase(USER)]
             said = [one.result() for one in [pool.submit(call) for call in calls]]
         assert site.rows(USER) == [] and set(said[:2] + said[3:]) <= {None, "G1"} and said.count(None) == said[2]
 
@@ -193,7 +194,7 @@ def test_an_account_that_is_deleted_while_a_registration_begins(site, connect):
         with ThreadPoolExecutor(2) as pool:
             calls = [pool.submit(site.register_begin, USER, "name")]
             assert begun.wait(30)
-            calls.append(pool.submit(site.delete_account, USER))
+            calls.append(pool.submit(site.erase, USER))
             time.sleep(0.3)
             goes_on.set()
             assert [call.result() for call in calls][1] == 0
@@ -214,7 +215,7 @@ def test_slips_of_a_site(site):
         for wrong in ("text", 5, [1]):
             with pytest.raises(TypeError, match="user is bytes"):
                 call(b"id", user=wrong)
-    for call in (site.rows, site.credentials, site.delete_account):
+    for call in (site.rows, site.retire_all, site.erase):
         for wrong in ("text", 5, [1]):
             with pytest.raises(TypeError, match="user is bytes"):
                 call(wrong)

@@ -216,7 +216,7 @@ def test_creation_options():
         "attestation": "none",
     }
     assert session == RegistrationSession(session.challenge, USER, True, (ES256, EDDSA, RS256), attestation=False)
-    options, session = server.register_begin(USER, "name", resident=False, algorithms=(EDDSA,))
+    options, session = server.register_begin(USER, "name", resident_key=False, algorithms=(EDDSA,))
     assert options["authenticatorSelection"] == {
         "residentKey": "discouraged", "requireResidentKey": False, "userVerification": "preferred"}
     assert options["pubKeyCredParams"] == [{"type": "public-key", "alg": -8}] and options["user"]["displayName"] == "name"

@@ -118,7 +118,7 @@ def test_sign_out_ends_what_is_open(site):
     assert site.run("select count(*) from garvoeng_session")[0][0] == 0
 
 
-@pytest.mark.parametrize("end", ["retire", "delete", "delete_account"])
+@pytest.mark.parametrize("end", ["retire", "delete", "erase"])
 def test_a_cookie_does_not_outlive_its_passkey(site, end):
     """Nor does a registration that was begun before; a visitor with another passkey of the account stays, and begins again."""
     visitor, other, key, second = site.visitor(), site.visitor(), device(), device(b"second")
@@ -130,15 +130,15 @@ def test_a_cookie_does_not_outlive_its_passkey(site, end):
     theirs = device(b"theirs").register(other("register/begin", {"name": "ada"})[1])
     eve = site.visitor()
     registered(eve, device(b"eve"), "eve")
-    if end == "delete_account":
-        assert site.server.delete_account(key.user) == 2
+    if end == "erase":
+        assert site.server.erase(key.user) == 2
     else:
         assert getattr(site.server, end)(key.id, user=key.user) and not getattr(site.server, end)(key.id, user=key.user)
-    left = {"retire": 2, "delete": 1, "delete_account": 0}[end]
+    left = {"retire": 2, "delete": 1, "erase": 0}[end]
     adds_nothing(site, visitor, key, made, left)
     assert again("list")[0] == 401 and again.who() in ("", "AnonymousUser")
     assert other("register/finish", theirs)[1]["refusal"] == "G1" and len(site.server.rows(key.user)) == left
-    if end == "delete_account":
+    if end == "erase":
         adds_nothing(site, other, key, theirs, 0)
         assert other("sign-in/finish", second.sign_in(other("sign-in/begin", {})[1], user=key.user))[1]["refusal"] == "W3"
     else:
@@ -150,10 +150,10 @@ def test_a_passkey_is_added_right_after_a_sign_in(site, monkeypatch):
     visitor, key = site.visitor(), device()
     registered(visitor, key)
     _, options = visitor("register/begin", {"name": "ada"})
-    from garvoeng import sql
+    from garvoeng import sql_rows
     from garvoeng.django import sign_ins
     for ahead, status in ((240, 200), (310, 401)):
-        monkeypatch.setattr(sql, "time", Later(ahead))
+        monkeypatch.setattr(sql_rows, "time", Later(ahead))
         monkeypatch.setattr(sign_ins, "time", Later(ahead))
         said = visitor("register/begin", {"name": "ada"})
         assert said[0] == status and visitor("list")[0] == 200

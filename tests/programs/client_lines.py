@@ -151,7 +151,7 @@ def ceremonies(tests):
                 for verified in (True, False) if "no-uv" not in words else (False,):
                     for attestation in ("none", "direct"):
                         what = f"{words} {algorithm} {resident} {verified} {attestation}"
-                        made, response = host.registered(os.urandom(16), algorithms=(algorithm,), resident=resident,
+                        made, response = host.registered(os.urandom(16), algorithms=(algorithm,), resident_key=resident,
                                                          user_verification=verified, attestation=attestation, extensions={"credProps": True})
                         stored = made.credential
                         packed = "self-attestation" in words and attestation == "direct"
@@ -328,7 +328,7 @@ def changed_packets(tests):
         host.registered(b"one")
         def ceremony():
             if act == "register":
-                options, _ = host.server.register_begin(b"two", "alex", algorithms=(ES256,), resident=False)
+                options, _ = host.server.register_begin(b"two", "alex", algorithms=(ES256,), resident_key=False)
                 return host.act("register", origin=ORIGIN, options=options)
             if act == "sign_in":
                 return host.sign_in(allow=[next(iter(host.table))])[1]

@@ -22,9 +22,9 @@ top = Path(__file__).resolve().parents[2]
 subprocess.run([top / "python" / "prepare"], check=True)
 sys.path[:0] = [str(top / "python"), str(top / "python" / "tests")]
 from device import AT, ED, UP, UV, Device, changed  # noqa: E402
-from garvoeng import EDDSA, ES256, RS256, BadInput, Credential, Refused, Registered, Server  # noqa: E402
+from garvoeng import EDDSA, ES256, RS256, BadInput, Credential, Refused, Registered, Server, SignedIn  # noqa: E402
 from garvoeng.forms import from_text  # noqa: E402
-from garvoeng.stored import StoredServer, StoredSignIn, StoreFailed  # noqa: E402
+from garvoeng.stored import StoredServer, StoreFailed  # noqa: E402
 import site_lines  # noqa: E402
 from site_lines import ORIGIN, PARTY, RP_ID, USER, begin_of, in_place_of_random, random_file  # noqa: E402
 
@@ -58,7 +58,8 @@ def raised(call, *words, **named):
 
 def signed(device, user=USER):
     """What is told of the device's last sign-in."""
-    return StoredSignIn(device.id, user, False, True, device.count, UP | UV, b"")
+    stored = Credential(device.id, user, device.algorithm, device.x, device.y, device.count, False)
+    return SignedIn(stored, None, False, True, UP | UV, b"")
 
 
 def registered(server, device, user=USER, **how):
@@ -102,7 +103,7 @@ def visits(tests):
 def settings(tests):
     """What a begin asks for, and what the site takes."""
     with tests.server("settings.db") as server:
-        options, session = server.register_begin(USER, "name", "display", exclude=[b"1"], user_verification=True, resident=False,
+        options, session = server.register_begin(USER, "name", "display", exclude=[b"1"], user_verification=True, resident_key=False,
                                                  algorithms=[EDDSA])
         tests.check("creation options", (options["user"]["displayName"], options["excludeCredentials"],
                                          options["authenticatorSelection"]["userVerification"],

@@ -178,10 +178,10 @@ def causes(tests):
     for log, wanted in ((False, 0), (True, 1), ("all", 1)):
         heard.clear()
         with tests.server(f"log{log}.db", log=log) as server:
-            raised(server.authenticate_complete, 0, Device().sign_in({"challenge": "AA"}, user=USER))
+            raised(server.authenticate_complete, "0", Device().sign_in({"challenge": "AA"}, user=USER))
         tests.check(f"refusals with log={log!r}", sum("sign-in refused W1 " in text for text in heard), wanted)
     logging.getLogger("garvoeng").removeHandler(handler)
-    with tests.server("short.db", expire=1) as server:
+    with tests.server("short.db", lifetime=1) as server:
         old = server.authenticate_begin()[1]
         time.sleep(2.5)
         young = server.authenticate_begin()[1]

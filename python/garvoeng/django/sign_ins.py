@@ -65,4 +65,4 @@ def logged_out(sender: Any, request: Any, **_: Any) -> None:
 
 def account_deleted(sender: Any, instance: Any, **_: Any) -> None:
     """With a user go his passkeys."""
-    server().delete_account(bytes(instance.handle))
+    server().erase(bytes(instance.handle))

@@ -1,0 +1,287 @@
+"""A relying party whose sessions and credentials are in a storage of the site's own, and what each server that keeps its own has."""
+from __future__ import annotations
+
+import json
+import re
+import secrets
+import time
+from dataclasses import dataclass, replace
+from typing import Any, Dict, List, Mapping, NoReturn, Optional, Protocol, Sequence, Tuple, Type, TypeVar, Union
+
+from . import answers, limits, options
+from .answers import in_thread
+from .errors import BadInput, Refused, SessionDamaged
+from .library import refusal_text
+from .options import Ids
+from .records import KeptCredential, Registered, RegistrationSession, SignedIn, SignInSession, open_session
+from .server import Server
+
+LIFETIME = 300
+"""How many seconds a session stays open, if not said."""
+
+Session = TypeVar("Session", RegistrationSession, SignInSession)
+_NUMBER = re.compile(r"[0-9a-f]{32}")
+
+
+class PasskeyServer(Protocol):
+    """What `KeepingServer`, `SqlServer` and `StoredServer` have in common. A site that is written for it changes its storage by the line
+    that makes the server. `session` is a text that only its visitor may have, or None: of another text none is open, and another kind of
+    value is TypeError."""
+
+    def register_begin(self, user: bytes, user_name: str, display_name: Optional[str] = None, *, exclude: Optional[Ids] = None,
+                       **how: Any) -> Tuple[Dict[str, Any], str]:
+        """As in `Server`. The account's passkeys are excluded, unless a list is given."""
+
+    def register_complete(self, session: Optional[str], response: Mapping[str, Any]) -> Registered:
+        """What a RegistrationResponseJSON registers; it is stored, and the session closed."""
+
+    def authenticate_begin(self, *, user: Optional[bytes] = None, allow: Optional[Ids] = None, **how: Any) -> Tuple[Dict[str, Any], str]:
+        """As in `Server`. Where the account is known its passkeys are listed, unless a list is given; where they are more than a list may
+        have, any that the browser finds may answer, and has to be the account's."""
+
+    def authenticate_complete(self, session: Optional[str], response: Mapping[str, Any]) -> SignedIn:
+        """Who signed in, of an AuthenticationResponseJSON; the counter is stored, and the session closed."""
+
+    def rows(self, user: Optional[bytes] = None) -> Sequence[KeptCredential]:
+        """The credentials of a user, or all, retired ones too, in order of registration."""
+
+    def retire(self, credential: bytes, *, user: Optional[bytes] = None) -> bool:
+        """A credential signs in no more, and its id stays taken; whether it did until now. Its user's open registrations end. With `user`
+        one of another account is left as it is."""
+
+    def retire_all(self, user: bytes) -> int:
+        """A user's credentials sign in no more, and his open registrations end; how many did until now."""
+
+    def delete(self, credential: bytes, *, user: Optional[bytes] = None) -> bool:
+        """A credential is forgotten, and its id may be registered again, by anybody; whether it was there. Its user's open registrations
+        end. `user` is as in `retire`."""
+
+    def erase(self, user: bytes) -> int:
+        """A user's credentials are forgotten, and his open registrations end; how many they were."""
+
+    def abandon(self, session: Optional[str]) -> bool:
+        """A session ends; whether it was open."""
+
+
+@dataclass(frozen=True)
+class OpenSession:
+    """A session as a `Store` has it."""
+
+    number: str
+    """32 hexadecimal digits, which only its visitor has."""
+    kind: str
+    """`registration` or `sign_in`."""
+    user: Optional[bytes]
+    """The user handle, where the account is known."""
+    data: str
+    """A text that `session` gives back as it is."""
+    ends_at: int
+    """Seconds since 1970. The server passes over a session that has ended; the store may delete it."""
+
+
+class Store(Protocol):
+    """A storage of a site's own: rows of an ORM, of a database, of a file. Each call is one change, whole or not at all, whoever calls at
+    the same time: in a database one transaction. Calls come from any thread, and are not awaited. Rows that the site has of its own may be
+    written in the same transaction."""
+
+    def begin(self, session: OpenSession) -> None:
+        """Adds a session."""
+
+    def session(self, number: str) -> Optional[OpenSession]:
+        """The session of this number, or None."""
+
+    def register(self, number: str, row: KeptCredential) -> int:
+        """Deletes the session and adds the row: 0. Where the session is not there 1, and where a row has the id, of anyone, retired or
+        not, 15; then nothing is changed."""
+
+    def sign_in(self, number: str, row: KeptCredential, sign_count: int) -> int:
+        """Deletes the session and writes the row in the place of the one of its id: 0. Where the session is not there 1, and where that
+        row is not there, is retired, or has another `sign_count` than this, 15; then nothing is changed."""
+
+    def abandon(self, number: str) -> bool:
+        """Deletes a session; whether it was there."""
+
+    def row(self, credential: bytes) -> Optional[KeptCredential]:
+        """The row of this id, or None."""
+
+    def rows(self, user: Optional[bytes]) -> Sequence[KeptCredential]:
+        """The rows of a user, or all, in order of registration."""
+
+    def retire(self, credential: bytes, user: Optional[bytes]) -> bool:
+        """Makes `retired` of a row true, where it is not, and deletes the sessions of its user whose kind is `registration`; whether it was
+        so. With `user` a row of another one is left as it is."""
+
+    def retire_all(self, user: bytes) -> int:
+        """The same of all rows of a user; how many were not retired."""
+
+    def delete(self, credential: bytes, user: Optional[bytes]) -> bool:
+        """Deletes a row, and the sessions of its user whose kind is `registration`; whether it was there. `user` is as in `retire`."""
+
+    def erase(self, user: bytes) -> int:
+        """Deletes all rows and all sessions of a user; how many rows."""
+
+
+def _wrong(call: str, said: Any, wanted: str) -> NoReturn:
+    answers.refuse(f"the store's {call}", said, wanted, awaited_in="")
+
+
+class KeepingServer:
+    """`Server` with its sessions and credentials in a `Store` of the site's own, as `MemoryStore()`.
+
+    `lifetime` is how many seconds a session stays open. Raises what `Server` raises, and what the store does, which changes nothing then.
+    TypeError where the store answers what is no answer. Where another sign-in of the credential was accepted meanwhile that is
+    `Refused` with W15, and where its id was registered meanwhile with G15.
+    """
+
+    def __init__(self, server: Server, store: Store, *, lifetime: int = LIFETIME) -> None:
+        if not isinstance(server, Server) or not callable(getattr(store, "sign_in", None)):
+            raise TypeError("KeepingServer takes a Server and a Store, as MemoryStore()")
+        self.server = server
+        self.store = store
+        self.lifetime = limits.check_lifetime(lifetime)
+
+    # ---- sessions
+
+    def _begun(self, kind: str, session: Union[RegistrationSession, SignInSession]) -> str:
+        number = secrets.token_hex(16)
+        self.store.begin(OpenSession(number, kind, session.user, json.dumps(session.to_json()), int(time.time()) + self.lifetime))
+        return number
+
+    def _opened(self, number: Optional[str], kind: str, read: Type[Session]) -> Optional[Session]:
+        """The session of this number and kind that is open, or None. Raises `SessionDamaged`."""
+        if number is None or not _NUMBER.fullmatch(number):
+            return None
+        found = self.store.session(number)
+        if found is None:
+            return None
+        if not isinstance(found, OpenSession):
+            _wrong("session", found, "an OpenSession or None")
+        if found.kind != kind or found.number != number or found.ends_at <= time.time():
+            return None
+        try:
+            return open_session(read, found.data)
+        except BadInput as error:
+            raise SessionDamaged(number, str(error)) from None
+
+    # ---- what the store answers
+
+    def _row(self, id: bytes) -> Optional[KeptCredential]:
+        found = self.store.row(id)
+        if found is not None and not isinstance(found, KeptCredential):
+            _wrong("row", found, "a KeptCredential or None")
+        return found
+
+    def _check_written(self, call: str, is_registration: bool, said: Any, meanwhile: str) -> None:
+        if type(said) is not int or said not in (0, 1, 15):
+            _wrong(call, said, "0, 1 or 15")
+        if said:
+            raise Refused(is_registration, said, meanwhile if said == 15 else refusal_text(is_registration, said))
+
+    def _count(self, call: str, said: Any) -> int:
+        if type(said) is not int or said < 0:
+            _wrong(call, said, "a whole number")
+        return said
+
+    # ---- registration
+
+    def register_begin(self, user: bytes, user_name: str, display_name: Optional[str] = None, *, exclude: Optional[Ids] = None,
+                       **how: Any) -> Tuple[Dict[str, Any], str]:
+        """The options for the page, and the session's number, which only this visitor may have. `how` is as in `Server.register_begin`;
+        the account's passkeys are excluded, unless a list is given."""
+        listed = options.fitting(self._own(limits.check_user(user))) if exclude is None else exclude
+        made, session = self.server.register_begin(user, user_name, display_name, exclude=listed, **how)
+        return made, self._begun("registration", session)
+
+    async def register_begin_async(self, user: bytes, user_name: str, display_name: Optional[str] = None,
+                                   **how: Any) -> Tuple[Dict[str, Any], str]:
+        """The same, awaited: a thread of the loop makes the call."""
+        return await in_thread(self.register_begin, user, user_name, display_name, **how)
+
+    def register_complete(self, session: Optional[str], response: Mapping[str, Any]) -> Registered:
+        """What a RegistrationResponseJSON registers; it is stored, and the session closed."""
+        number = limits.check_session(session)
+        made = self.server.register_complete(self._opened(number, "registration", RegistrationSession), response,
+                                             is_registered=lambda id: self._row(id) is not None)
+        assert number is not None
+        row = KeptCredential(**vars(made.credential), aaguid=made.aaguid, backed_up=made.backed_up, created_at=int(time.time()))
+        self._check_written("register", True, self.store.register(number, row), "the credential was registered meanwhile")
+        return made
+
+    async def register_complete_async(self, session: Optional[str], response: Mapping[str, Any]) -> Registered:
+        """The same, awaited as `register_begin_async`; what `verify` gives is awaited too, if it can be."""
+        return await in_thread(self.register_complete, session, response)
+
+    # ---- sign-in
+
+    def authenticate_begin(self, *, user: Optional[bytes] = None, allow: Optional[Ids] = None, **how: Any) -> Tuple[Dict[str, Any], str]:
+        """The options for the page, and the session's number, which only this visitor may have. `how` is as in
+        `Server.authenticate_begin`. Where the account is known its passkeys are listed, unless a list is given; where they are more than
+        a list may have, any that the browser finds may answer, and has to be the account's."""
+        own = [] if user is None or allow is not None else self._own(limits.check_user(user))
+        made, session = self.server.authenticate_begin(user=user, allow=options.allowed(own) if allow is None else allow, **how)
+        return made, self._begun("sign_in", session)
+
+    async def authenticate_begin_async(self, **how: Any) -> Tuple[Dict[str, Any], str]:
+        """The same, awaited as `register_begin_async`."""
+        return await in_thread(self.authenticate_begin, **how)
+
+    def authenticate_complete(self, session: Optional[str], response: Mapping[str, Any]) -> SignedIn:
+        """Who signed in, of an AuthenticationResponseJSON; the counter is stored, and the session closed."""
+        number = limits.check_session(session)
+        found: List[Optional[KeptCredential]] = []
+
+        def credential(id: bytes) -> Optional[KeptCredential]:
+            found.append(self._row(id))
+            return found[-1]
+
+        signed_in = self.server.authenticate_complete(self._opened(number, "sign_in", SignInSession), response, credential=credential)
+        assert number is not None
+        [before] = found
+        assert before is not None
+        row = replace(before, sign_count=signed_in.credential.sign_count, eligible=signed_in.credential.eligible,
+                      backed_up=signed_in.backed_up, used_at=int(time.time()))
+        self._check_written("sign_in", False, self.store.sign_in(number, row, before.sign_count),
+                            "another sign-in of this credential was accepted meanwhile, or it was retired")
+        return replace(signed_in, before=None)
+
+    async def authenticate_complete_async(self, session: Optional[str], response: Mapping[str, Any]) -> SignedIn:
+        """The same, awaited as `register_complete_async`."""
+        return await in_thread(self.authenticate_complete, session, response)
+
+    # ---- sessions and credentials
+
+    def rows(self, user: Optional[bytes] = None) -> List[KeptCredential]:
+        """The credentials of a user, or all, retired ones too, in order of registration."""
+        found = self.store.rows(None if user is None else limits.check_user(user))
+        if not isinstance(found, (list, tuple)) or not all(isinstance(row, KeptCredential) for row in found):
+            _wrong("rows", found, "a list of KeptCredential")
+        return list(found)
+
+    def _own(self, user: bytes) -> List[KeptCredential]:
+        """A user's passkeys that may sign in."""
+        return [row for row in self.rows(user) if not row.retired]
+
+    def retire(self, credential: bytes, *, user: Optional[bytes] = None) -> bool:
+        """A credential signs in no more, and its id stays taken; whether it did until now. Its user's open registrations end. With `user`
+        one of another account is left as it is."""
+        said = self.store.retire(limits.check_id(credential, "credential"), None if user is None else limits.check_user(user))
+        return answers.is_true("the store's retire", said)
+
+    def retire_all(self, user: bytes) -> int:
+        """A user's credentials sign in no more, and his open registrations end; how many did until now."""
+        return self._count("retire_all", self.store.retire_all(limits.check_user(user)))
+
+    def delete(self, credential: bytes, *, user: Optional[bytes] = None) -> bool:
+        """A credential is forgotten, and its id may be registered again, by anybody; whether it was there. Its user's open registrations
+        end. `user` is as in `retire`."""
+        said = self.store.delete(limits.check_id(credential, "credential"), None if user is None else limits.check_user(user))
+        return answers.is_true("the store's delete", said)
+
+    def erase(self, user: bytes) -> int:
+        """A user's credentials are forgotten, and his open sessions end; how many they were."""
+        return self._count("erase", self.store.erase(limits.check_user(user)))
+
+    def abandon(self, session: Optional[str]) -> bool:
+        """A session ends; whether it was open."""
+        number = limits.check_session(session)
+        return number is not None and bool(_NUMBER.fullmatch(number)) and answers.is_true("the store's abandon", self.store.abandon(number))

@@ -1,0 +1,300 @@
+"""The rows of `SqlServer` within one transaction: the statements, and what each row has to be."""
+from __future__ import annotations
+
+import json
+import logging
+import re
+import secrets
+import time
+from contextlib import suppress
+from dataclasses import dataclass
+from typing import Any, Dict, Iterable, List, Optional, Sequence, Tuple, Union
+
+from . import limits
+from .errors import BadInput, Refused, RowDamaged, SessionDamaged
+from .forms import from_text, to_text, transports_in
+from .records import Credential, KeptCredential, RegistrationSession, SignedIn, SignInSession, open_session
+
+MIGRATIONS: Tuple[Tuple[str, ...], ...] = ((
+    "create table garvoeng_credential (id {bytes} primary key, user_handle {bytes} not null, public_key {bytes} not null, "
+    "sign_count bigint not null, backup_eligible integer null, retired integer not null, backed_up integer null, "
+    "transports text not null default '', aaguid {bytes} null, created_at bigint not null, used_at bigint null)",
+    "create index garvoeng_credential_by_user on garvoeng_credential (user_handle)",
+    "create table garvoeng_session (id text primary key, data text not null, expires_at bigint not null)",
+    "create index garvoeng_session_by_expiry on garvoeng_session (expires_at)",
+),)
+"""What makes the tables, and later changes them: the statements of each version, from 1 on."""
+
+_COLUMNS = "id, user_handle, public_key, sign_count, backup_eligible, retired, transports, backed_up, aaguid, created_at, used_at"
+_SESSION = re.compile(r"[0-9a-f]{32}")
+_KINDS = {RegistrationSession: "algorithms", SignInSession: "allow"}
+"""The member that only a session of this kind has."""
+_SIGNED_IN = "signed_in"
+"""That of a sign-in that is kept."""
+_log = logging.getLogger("garvoeng")
+
+
+@dataclass(frozen=True)
+class KeptSignIn:
+    """A visitor who is signed in."""
+
+    number: str
+    """What only this visitor has."""
+    user: bytes
+    """The user handle."""
+    credential: Optional[bytes]
+    """The id of the passkey that signed in; None where it was by other means."""
+    at: int
+    """When: seconds since 1970."""
+
+
+def _flag(value: Any) -> Optional[bool]:
+    return None if value is None else bool(value)
+
+
+def _number(value: Optional[bool]) -> Optional[int]:
+    return None if value is None else int(value)
+
+
+def _whole(value: Any, what: str, most: int = 2**63 - 1) -> int:
+    if type(value) is not int or not 0 <= value <= most:
+        raise BadInput(f"{what} is not a whole number up to {most}")
+    return value
+
+
+def _read(row: Sequence[Any]) -> KeptCredential:
+    identity, user, key = (limits.check_bytes(value, what) for value, what in zip(row, ("id", "user_handle", "public_key")))
+    eligible, backed_up = (_flag(None if value is None else _whole(value, what, 1))
+                           for value, what in ((row[4], "backup_eligible"), (row[7], "backed_up")))
+    credential = Credential.from_cose(limits.check_id(identity, "id"), limits.check_user(user), key,
+                                      _whole(row[3], "sign_count", limits.MAX_COUNT), eligible, bool(_whole(row[5], "retired", 1)),
+                                      transports_in(limits.check_text(row[6], "transports").split(",")))
+    return KeptCredential(**vars(credential), aaguid=None if row[8] is None else limits.check_bytes(row[8], "aaguid"), backed_up=backed_up,
+                          created_at=_whole(row[9], "created_at"), used_at=None if row[10] is None else _whole(row[10], "used_at"))
+
+
+def _row(row: Sequence[Any]) -> KeptCredential:
+    """A credential's row. Raises `RowDamaged`."""
+    try:
+        return _read(row)
+    except (BadInput, TypeError) as error:
+        damaged = RowDamaged(bytes(row[0]) if isinstance(row[0], (bytes, memoryview)) else row[0], str(error))
+    _log.error("%s", damaged)
+    raise damaged
+
+
+def _members(data: Any) -> Dict[str, Any]:
+    """The members of a session's row; none where it is damaged."""
+    try:
+        found = json.loads(data)
+    except (TypeError, ValueError, RecursionError):
+        return {}
+    return found if isinstance(found, dict) else {}
+
+
+def _check_session(number: Any) -> bool:
+    return isinstance(number, str) and _SESSION.fullmatch(number) is not None
+
+
+class Rows:
+    """The rows within one transaction, by its cursor. `mark` is what stands for a value in the driver's statements."""
+
+    def __init__(self, cursor: Any, is_sqlite: bool, mark: str) -> None:
+        self.is_sqlite = is_sqlite
+        self._cursor = cursor
+        self._mark = mark
+
+    def run(self, statement: str, *values: Any) -> Any:
+        """The cursor after a statement, whose values stand as `?`."""
+        self._cursor.execute(statement.replace("?", self._mark), values)
+        return self._cursor
+
+    # ---- tables
+
+    def prepare(self) -> None:
+        """Makes the tables, or brings those of an older version up to this one."""
+        if not self.is_sqlite:
+            self.run("select pg_advisory_xact_lock(hashtext('garvoeng'))")
+        self.run("create table if not exists garvoeng_version (version integer not null)")
+        found = self.run("select version from garvoeng_version").fetchone()
+        version = 0 if found is None else found[0]
+        if version > len(MIGRATIONS):
+            raise BadInput(f"the tables are of version {version}, and this package knows {len(MIGRATIONS)}: install a later one")
+        for statements in MIGRATIONS[version:]:
+            for statement in statements:
+                self.run(statement.format(bytes="blob" if self.is_sqlite else "bytea"))
+        if found is None:
+            self.run("insert into garvoeng_version values (?)", len(MIGRATIONS))
+        else:
+            self.run("update garvoeng_version set version = ?", len(MIGRATIONS))
+
+    def lock(self, user: bytes) -> None:
+        """Until the transaction ends nobody else changes what this account has. SQLite has one lock for all."""
+        if not self.is_sqlite:
+            self.run("select pg_advisory_xact_lock(hashtext(cast(? as text)))", f"garvoeng {to_text(user)}")
+
+    # ---- sessions
+
+    def _stored(self, data: Dict[str, Any], lifetime: int) -> str:
+        """Stores a session, whose id is 32 random hexadecimal digits; those that have ended go."""
+        now, number = int(time.time()), secrets.token_hex(16)
+        self.run("delete from garvoeng_session where expires_at <= ?", now)
+        self.run("insert into garvoeng_session values (?, ?, ?)", number, json.dumps(data), now + lifetime)
+        return number
+
+    def _found(self, number: Any) -> Optional[Dict[str, Any]]:
+        """The members of the session that is open, or None."""
+        if not _check_session(number):
+            return None
+        found = self.run("select data from garvoeng_session where id = ? and expires_at > ?", number, int(time.time())).fetchone()
+        return None if found is None else _members(found[0])
+
+    def begin(self, session: Union[RegistrationSession, SignInSession], lifetime: int, sign_in: Optional[str] = None) -> str:
+        """Stores a session, and which sign-in it is bound to; its id."""
+        bound = {} if sign_in is None else {"sign_in": sign_in}
+        return self._stored({**session.to_json(), **bound}, lifetime)
+
+    def take(self, number: Any, kind: Any, sign_in: Optional[str] = None) -> Any:
+        """The open session of this id and this kind that is bound to this sign-in, if to any, or None. Its row is deleted, if the
+        transaction commits: so it answers once. Raises `SessionDamaged`."""
+        found = self._found(number)
+        if found is None or any(member in found for other, member in _KINDS.items() if other is not kind) or _SIGNED_IN in found:
+            return None
+        try:
+            session = open_session(kind, found)
+        except BadInput as error:
+            damaged = SessionDamaged(number, str(error))
+            _log.error("%s", damaged)
+            raise damaged from None
+        if session.user is not None:
+            self.lock(session.user)
+        if found.get("sign_in") != sign_in or not self.is_signed_in(session.user, sign_in):
+            return None
+        return session if self.end(number) else None
+
+    def end(self, number: Any) -> bool:
+        """Deletes a session; whether it was there."""
+        return _check_session(number) and bool(self.run("delete from garvoeng_session where id = ?", number).rowcount == 1)
+
+    def end_of(self, user: bytes, members: Iterable[str]) -> None:
+        """Deletes a user's sessions of the kinds that have these members."""
+        handle, place = to_text(user), "instr" if self.is_sqlite else "strpos"
+        rows = self.run(f"select id, data from garvoeng_session where {place}(data, cast(? as text)) > 0", f'"{handle}"').fetchall()
+        for number, data in rows:
+            found = _members(data)
+            if found.get("user") == handle and any(member in found for member in members):
+                self.end(number)
+
+    # ---- visitors who are signed in
+
+    def keep_sign_in(self, user: bytes, credential: Optional[bytes], lifetime: int) -> str:
+        """Stores that a visitor is signed in; the number, which only this visitor may have."""
+        return self._stored({_SIGNED_IN: int(time.time()), "user": to_text(user),
+                             "credential": None if credential is None else to_text(credential)}, lifetime)
+
+    def signed_in(self, number: Any, fresh: Optional[int] = None) -> Optional[KeptSignIn]:
+        """Who is signed in by this number, for `fresh` seconds at most; None where that ended, or its passkey is retired or deleted."""
+        found = self._found(number)
+        if found is None or _SIGNED_IN not in found:
+            return None
+        try:
+            credential = found.get("credential")
+            kept = KeptSignIn(number, from_text(found.get("user"), "user"), None if credential is None else from_text(credential, "credential"),
+                              _whole(found[_SIGNED_IN], _SIGNED_IN))
+        except BadInput as error:
+            _log.error("%s", SessionDamaged(number, str(error)))
+            return None
+        if fresh is not None and time.time() - kept.at > fresh:
+            return None
+        statement = "select 1 from garvoeng_credential where id = ? and user_handle = ? and retired = 0"
+        is_open = kept.credential is None or self.run(statement, kept.credential, kept.user).fetchone() is not None
+        return kept if is_open else None
+
+    def is_signed_in(self, user: Optional[bytes], sign_in: Optional[str]) -> bool:
+        """Whether this user is signed in by this number; without one there is nothing to ask."""
+        if sign_in is None:
+            return True
+        kept = self.signed_in(sign_in)
+        return kept is not None and kept.user == user
+
+    # ---- credentials
+
+    def credential(self, id: bytes) -> Optional[KeptCredential]:
+        """Raises `RowDamaged`."""
+        row = self.run(f"select {_COLUMNS} from garvoeng_credential where id = ?", id).fetchone()
+        return None if row is None else _row(row)
+
+    def has(self, id: bytes) -> bool:
+        """Whether a credential has the id, to anyone, retired or not."""
+        return self.run("select 1 from garvoeng_credential where id = ?", id).fetchone() is not None
+
+    def credentials(self, user: Optional[bytes]) -> List[KeptCredential]:
+        """Those of a user, or all, but for rows that are damaged."""
+        which, values = ("", ()) if user is None else (" where user_handle = ?", (user,))
+        rows = self.run(f"select {_COLUMNS} from garvoeng_credential{which} order by created_at, id", *values).fetchall()
+        listed = []
+        for row in rows:
+            with suppress(RowDamaged):
+                listed.append(_row(row))
+        return listed
+
+    def listed(self, user: bytes) -> List[KeptCredential]:
+        """A user's passkeys that may sign in."""
+        return [row for row in self.credentials(user) if not row.retired]
+
+    def _owner(self, id: bytes, user: Optional[bytes]) -> Optional[bytes]:
+        """Whose a credential is, if it is there, and of this user if one is named. His account is locked then."""
+        row = self.run("select user_handle from garvoeng_credential where id = ?", id).fetchone()
+        owner = None if row is None else bytes(row[0]) if isinstance(row[0], (bytes, memoryview)) else b""
+        if owner is None or user not in (None, owner):
+            return None
+        self.lock(owner)
+        return owner
+
+    def retire(self, id: bytes, user: Optional[bytes]) -> bool:
+        """The user's open registrations end with it."""
+        owner = self._owner(id, user)
+        if owner is None or self.run("update garvoeng_credential set retired = 1 where id = ? and retired = 0", id).rowcount != 1:
+            return False
+        self.end_of(owner, [_KINDS[RegistrationSession]])
+        return True
+
+    def retire_all(self, user: bytes) -> int:
+        """How many did sign in until now. The user's open registrations end."""
+        self.lock(user)
+        self.end_of(user, [_KINDS[RegistrationSession]])
+        return int(self.run("update garvoeng_credential set retired = 1 where user_handle = ? and retired = 0", user).rowcount)
+
+    def delete(self, id: bytes, user: Optional[bytes]) -> bool:
+        """The user's open registrations end with it."""
+        owner = self._owner(id, user)
+        if owner is None or self.run("delete from garvoeng_credential where id = ?", id).rowcount != 1:
+            return False
+        self.end_of(owner, [_KINDS[RegistrationSession]])
+        return True
+
+    def erase(self, user: bytes) -> int:
+        """How many credentials it had. All of the user's sessions end, and each visitor who is signed in is so no more."""
+        self.lock(user)
+        self.end_of(user, [*_KINDS.values(), _SIGNED_IN])
+        return int(self.run("delete from garvoeng_credential where user_handle = ?", user).rowcount)
+
+    def add(self, credential: Credential, backed_up: Optional[bool], aaguid: Optional[bytes]) -> None:
+        """Stores a credential. Raises `Refused`, G15, where its id is registered, to anyone, retired or not."""
+        added = self.run(
+            "insert into garvoeng_credential values (?, ?, ?, ?, ?, ?, ?, ?, ?, ?, null) on conflict (id) do nothing",
+            credential.id, credential.user, credential.cose_key, credential.sign_count, _number(credential.eligible),
+            int(credential.retired), _number(backed_up), ",".join(credential.transports), aaguid, int(time.time()))
+        if added.rowcount != 1:
+            raise Refused(True, 15, "the credential was registered meanwhile")
+
+    def count(self, signed_in: SignedIn) -> None:
+        """Writes what a sign-in said. Raises `Refused`, W15, where the stored counter is not that for which the verdict was given."""
+        new, old = signed_in.credential, signed_in.before
+        assert old is not None
+        written = self.run(
+            "update garvoeng_credential set sign_count = ?, backup_eligible = ?, backed_up = ?, used_at = ? "
+            "where id = ? and sign_count = ? and retired = 0",
+            new.sign_count, _number(new.eligible), int(signed_in.backed_up), int(time.time()), old.id, old.sign_count)
+        if written.rowcount != 1:
+            raise Refused(False, 15, "another sign-in of this credential was accepted meanwhile, or it was retired")
