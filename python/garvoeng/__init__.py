@@ -11,18 +11,39 @@ module calls. Signatures are verified by `cryptography`.
 proved program have the same four calls without look-ups, and what keeps credentials: a site changes its storage by the line that makes the
 server.
 """
+from importlib import import_module
+from typing import TYPE_CHECKING, Any
+
 from .errors import BadInput, Refused, RowDamaged, SessionDamaged
 from .library import EDDSA, ES256, RS256, is_canonical
-from .keeping import KeepingServer, OpenSession, PasskeyServer, Store
 from .limits import MAX_LIST
-from .memory import MemoryStore
-from .rate_limit import RateLimit
 from .records import Credential, KeptCredential, Registered, RegistrationSession, SignedIn, SignInSession
 from .server import Server
-from .stored import StoredServer, StoreFailed
+
+if TYPE_CHECKING:
+    from .keeping import KeepingServer, OpenSession, PasskeyServer, Store
+    from .memory import MemoryStore
+    from .rate_limit import RateLimit
+    from .stored import StoredServer, StoreFailed
 
 __version__ = "0.1.0"
 
 __all__ = ["EDDSA", "ES256", "MAX_LIST", "RS256", "BadInput", "Credential", "KeepingServer", "KeptCredential", "MemoryStore", "OpenSession",
            "PasskeyServer", "RateLimit", "Refused", "Registered", "RegistrationSession", "RowDamaged", "Server", "SessionDamaged",
            "SignInSession", "SignedIn", "Store", "StoreFailed", "StoredServer", "is_canonical"]
+
+
+_LATER = {"KeepingServer": "keeping", "OpenSession": "keeping", "PasskeyServer": "keeping", "Store": "keeping", "MemoryStore": "memory",
+          "RateLimit": "rate_limit", "StoreFailed": "stored", "StoredServer": "stored"}
+"""What is imported by who asks for it, and its module."""
+
+
+def __getattr__(name: str) -> Any:
+    if name not in _LATER:
+        raise AttributeError(f"module {__name__!r} has no attribute {name!r}")
+    globals()[name] = getattr(import_module(f".{_LATER[name]}", __name__), name)
+    return globals()[name]
+
+
+def __dir__() -> "list[str]":
+    return sorted({*globals(), *__all__})

@@ -1,11 +1,13 @@
 """What the functions that a host hands in answer: `verify`, `is_registered` and `credential`."""
 from __future__ import annotations
 
-import asyncio
 import inspect
 from contextvars import ContextVar
 from functools import partial
-from typing import Any, Awaitable, Callable, List, NoReturn, Optional, Tuple, TypeVar, Union
+from typing import TYPE_CHECKING, Any, Awaitable, Callable, List, NoReturn, Optional, Tuple, TypeVar, Union
+
+if TYPE_CHECKING:
+    import asyncio
 
 Answered = TypeVar("Answered")
 Verify = Callable[[int, bytes, bytes, bytes, bytes], Union[bool, Awaitable[bool]]]
@@ -72,6 +74,7 @@ def _called(loop: asyncio.AbstractEventLoop, call: Callable[[], Answered]) -> An
 
 async def in_thread(call: Callable[..., Answered], *words: Any, **named: Any) -> Answered:
     """Makes a call in a thread of the loop. What `verify` gives there is awaited by the loop, if it can be."""
+    import asyncio  # which takes longer to import than all else that a site without a loop has
     return await asyncio.to_thread(_called, asyncio.get_running_loop(), partial(call, *words, **named))
 
 
@@ -85,5 +88,6 @@ def waiting(verify: Verify) -> Verify:
 
 
 def _waited(loop: asyncio.AbstractEventLoop, verify: Verify, *words: Any) -> Any:
+    import asyncio
     said = verify(*words)
     return asyncio.run_coroutine_threadsafe(awaited(said), loop).result() if inspect.isawaitable(said) else said

@@ -2,8 +2,8 @@
 from __future__ import annotations
 
 import json
+import os
 import re
-import secrets
 import time
 from dataclasses import dataclass, replace
 from typing import Any, Dict, List, Mapping, NoReturn, Optional, Protocol, Sequence, Tuple, Type, TypeVar, Union
@@ -11,8 +11,8 @@ from typing import Any, Dict, List, Mapping, NoReturn, Optional, Protocol, Seque
 from . import answers, limits, options
 from .answers import in_thread
 from .errors import BadInput, Refused, SessionDamaged
-from .library import refusal_text
-from .options import Ids
+from .library import EDDSA, ES256, RS256, refusal_text
+from .options import Ids, Requirement
 from .records import KeptCredential, Registered, RegistrationSession, SignedIn, SignInSession, open_session
 from .server import Server
 
@@ -29,13 +29,18 @@ class PasskeyServer(Protocol):
     value is TypeError."""
 
     def register_begin(self, user: bytes, user_name: str, display_name: Optional[str] = None, *, exclude: Optional[Ids] = None,
-                       **how: Any) -> Tuple[Dict[str, Any], str]:
+                       user_verification: Requirement = False, resident_key: Requirement = True,
+                       algorithms: Sequence[int] = (ES256, EDDSA, RS256), authenticator_attachment: Optional[str] = None,
+                       attestation: str = "none", conditional: bool = False, timeout: Optional[int] = None, hints: Sequence[str] = (),
+                       extensions: Optional[Mapping[str, Any]] = None) -> Tuple[Dict[str, Any], str]:
         """As in `Server`. The account's passkeys are excluded, unless a list is given."""
 
     def register_complete(self, session: Optional[str], response: Mapping[str, Any]) -> Registered:
         """What a RegistrationResponseJSON registers; it is stored, and the session closed."""
 
-    def authenticate_begin(self, *, user: Optional[bytes] = None, allow: Optional[Ids] = None, **how: Any) -> Tuple[Dict[str, Any], str]:
+    def authenticate_begin(self, *, user: Optional[bytes] = None, allow: Optional[Ids] = None, user_verification: Requirement = False,
+                           timeout: Optional[int] = None, hints: Sequence[str] = (),
+                           extensions: Optional[Mapping[str, Any]] = None) -> Tuple[Dict[str, Any], str]:
         """As in `Server`. Where the account is known its passkeys are listed, unless a list is given; where they are more than a list may
         have, any that the browser finds may answer, and has to be the account's."""
 
@@ -143,7 +148,7 @@ class KeepingServer:
     # ---- sessions
 
     def _begun(self, kind: str, session: Union[RegistrationSession, SignInSession]) -> str:
-        number = secrets.token_hex(16)
+        number = os.urandom(16).hex()
         self.store.begin(OpenSession(number, kind, session.user, json.dumps(session.to_json()), int(time.time()) + self.lifetime))
         return number
 

@@ -1,7 +1,7 @@
 """A relying party over the proved steps. It keeps nothing: sessions and credentials are the site's."""
 from __future__ import annotations
 
-import secrets
+import os
 from dataclasses import fields
 from typing import Any, Awaitable, Callable, Dict, Mapping, Optional, Sequence, Tuple, Type, TypeVar, Union
 
@@ -116,7 +116,7 @@ class Server:
         verification = options.user_verification_of(user_verification)
         options.ids_of(listed, "exclude")
         more = options.of_creation(verification, resident_key, authenticator_attachment, attestation, timeout, hints, extensions)
-        session = RegistrationSession(secrets.token_bytes(32), limits.check_user(user), verification == "required",
+        session = RegistrationSession(os.urandom(32), limits.check_user(user), verification == "required",
                                       limits.check_algorithms(algorithms), limits.check_flag(conditional, "conditional"),
                                       attestation != "none")
         return options.creation_options({"id": self.rp_id, "name": self.rp_name}, session, user_name, display_name, listed, more), session
@@ -179,7 +179,7 @@ class Server:
         """
         listed = limits.check_list(allow, "allow", "credentials or their ids")
         verification = options.user_verification_of(user_verification)
-        session = SignInSession(secrets.token_bytes(32), None if user is None else limits.check_user(user),
+        session = SignInSession(os.urandom(32), None if user is None else limits.check_user(user),
                                 options.ids_of(listed, "allow"), verification == "required")
         return options.request_options(self.rp_id, session, listed,
                                        options.of_request(verification, timeout, hints, extensions)), session
