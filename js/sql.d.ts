@@ -1,28 +1,45 @@
 // A relying party over PostgreSQL, for Node.
 import { KeptCredential, PasskeyServer, Registered, RegistrationOptions, Server, SignInOptions, SignOuts, SignedIn } from "./index.js";
 
-/** What is asked of a connection: those of `pg`. */
+/** What is asked of a connection: those of `pg`. One without `release` is ended by `end`, if it has that. */
 export interface SqlClient {
   query(text: string, values: unknown[]): Promise<{ rows: any[]; rowCount: number | null }>;
-  on(name: "error", listener: (error: Error) => void): unknown;
-  removeListener(name: "error", listener: (error: Error) => void): unknown;
-  release(isBroken?: boolean): void;
+  on?(name: "error", listener: (error: Error) => void): unknown;
+  removeListener?(name: "error", listener: (error: Error) => void): unknown;
+  release?(isBroken?: boolean): void;
+  end?(): Promise<void>;
 }
 
-/** What is asked of a pool: a `Pool` of `pg`. */
+/** What is asked of a pool: a `Pool` of `pg`, or what has its `connect`. */
 export interface SqlPool {
   connect(): Promise<SqlClient>;
-  listenerCount(name: "error"): number;
-  on(name: "error", listener: (error: Error) => void): unknown;
+  listenerCount?(name: "error"): number;
+  on?(name: "error", listener: (error: Error) => void): unknown;
+}
+
+/** Makes a statement in the transaction of a call; values stand as `$1`. */
+export type SqlQuery = (text: string, values?: unknown[]) => Promise<{ rows: any[]; rowCount: number | null }>;
+
+export interface SqlServerOptions {
+  /** How many seconds a session stays open, by the clock of the process: 300. */
+  lifetime?: number;
+  /** What gets a `RowDamaged` for each row that is left out of a list: `console.error`. */
+  logger?: (error: unknown) => void;
+  /** What a site does with its own rows, in the transaction of the call that stores it, and awaited: what it throws rejects the call, and
+   *  nothing is stored then. Where the transaction is made again it is called again. */
+  onRegistered?: (query: SqlQuery, registered: Registered) => unknown;
+  onSignedIn?: (query: SqlQuery, signedIn: SignedIn) => unknown;
+  /** Of `erase`, with the user handle. */
+  onErased?: (query: SqlQuery, user: Uint8Array) => unknown;
 }
 
 /** A `Server` whose sessions and credentials are rows, in the tables `garvoeng_version`, `garvoeng_credential` and
  *  `garvoeng_session`, which the first call makes where they are not there. Each call is one transaction; one that is rejected, by
- *  whatever, has changed nothing, but that a commit whose answer was lost (`StoreFailed`) is done or is not. */
+ *  whatever, has changed nothing, but that a commit whose answer was lost (`StoreFailed`) is done or is not. Where another transaction is in the
+ *  way (a serialization failure or a deadlock) it is made again, eight times at most. */
 export class SqlServer implements PasskeyServer {
-  /** The pool stays the host's, who ends it. `lifetime` is how many seconds a session stays open, by the clock of the process: 300.
-   *  `logger` gets a `RowDamaged` for each row that is left out of a list: `console.error`. */
-  constructor(server: Server, pool: SqlPool, options?: { lifetime?: number; logger?: (error: unknown) => void });
+  /** The pool stays the host's, who ends it; or a function gives a client for each call. */
+  constructor(server: Server, pool: SqlPool | (() => SqlClient | Promise<SqlClient>), options?: SqlServerOptions);
   readonly origins: readonly string[];
   /** In the table `garvoeng_session`. */
   readonly signOuts: SignOuts;

@@ -7,7 +7,7 @@ import {
   BadInput, KeptCredential, Refused, RegistrationSession, RowDamaged, SignInSession, StoreFailed, coseKeyOf, credentialFromCose,
 } from "./index.js";
 import { LIFETIME, isNumber, now } from "./keeping.js";
-import { allowed, checkCredential, checkFunction, checkId, checkIds, checkSession, checkUser, checkWhole, fitting, optionsIn } from "./limits.js";
+import { allowed, checkCredential, checkFunction, checkId, checkIds, checkSession, checkUser, checkWhole, fitting, optionsIn, shown } from "./limits.js";
 import { registrationOptionsIn, signInOptionsIn } from "./options.js";
 import { ofRow, openIn } from "./records.js";
 
@@ -25,6 +25,11 @@ const TABLES = [
 // Sessions that have ended go at a begin, so many at a time, and no begin waits for another's.
 const EXPIRED = `delete from garvoeng_session where id in (
   select id from garvoeng_session where expires_at <= $1 limit 100 for update skip locked)`;
+// The SQLSTATE of a transaction that may be made again: serialization failure and deadlock.
+const RETRIED = ["40001", "40P01"];
+// How often a transaction is made where another one is in its way.
+const TRIES = 8;
+const HOOKS = ["onRegistered", "onSignedIn", "onErased"];
 const COLUMNS = "id, user_handle, public_key, sign_count, backup_eligible, retired, transports, backed_up, aaguid, created_at, used_at";
 
 const flagOf = (value) => (value === null ? null : Number(value));
@@ -61,34 +66,82 @@ function credentialOf(row) {
   });
 }
 
+// What gives a client: a pool's `connect`, or a function.
+function connectOf(pool) {
+  if (typeof pool === "function") return pool;
+  if (typeof pool?.connect !== "function") throw new BadInput("a SqlServer is over a pool of pg: write new SqlServer(new Server(..), new Pool(..)), or a function that gives a client");
+  return () => pool.connect();
+}
+
+// Gives a client back, or ends it. What is committed stays so, whatever the way back says.
+async function givenBack(client, isSound) {
+  try {
+    if (typeof client.release === "function") client.release(!isSound);
+    else await client.end?.();
+  } catch {}
+}
+
+const failed = (error) => new StoreFailed(`the database failed: ${error?.message ?? shown(error)}`, { cause: error });
+const isRetried = (error) => error instanceof StoreFailed && RETRIED.includes(error.cause?.code);
+const sleep = (milliseconds) => new Promise((resolve) => setTimeout(resolve, milliseconds));
+
 /** A `Server` whose sessions and credentials are rows, over a pool of `pg`. */
 export class SqlServer {
-  #pool;
+  #connect;
   #server;
   #lifetime;
   #logger;
+  #hooks = {};
   #prepared = null;
 
   constructor(server, pool, options) {
-    const { lifetime = LIFETIME, logger = console.error } = optionsIn(options, "SqlServer", ["lifetime", "logger"]);
+    const { lifetime = LIFETIME, logger = console.error, ...hooks } = optionsIn(options, "SqlServer", ["lifetime", "logger", ...HOOKS]);
     if (typeof server?.relatedOrigins !== "function") throw new BadInput("a SqlServer is over a Server: write new SqlServer(new Server(..), pool)");
-    if (typeof pool?.connect !== "function") throw new BadInput("a SqlServer is over a pool of pg: write new SqlServer(new Server(..), new Pool(..))");
+    this.#connect = connectOf(pool);
+    for (const name of HOOKS) this.#hooks[name] = hooks[name] === undefined ? null : checkFunction(hooks[name], name, "async (query, told) => ..");
     this.#server = server;
     this.#lifetime = checkWhole(lifetime, "lifetime, in seconds,", 1);
     this.#logger = checkFunction(logger, "logger", "(error) => console.error(error)");
-    this.#pool = pool;
     this.origins = server.origins;
     this.signOuts = Object.freeze({ add: (number, until) => this.#addSignOut(number, until), has: (number) => this.#hasSignOut(number) });
     // An idle connection that ends would end the process where nobody listens; the pool makes another in its place.
-    if (pool.listenerCount("error") === 0) pool.on("error", () => {});
+    if (typeof pool.listenerCount === "function" && pool.listenerCount("error") === 0) pool.on("error", () => {});
   }
 
+  // A transaction, which is made again where another one was in its way.
   async #transaction(work) {
-    const failed = (error) => new StoreFailed(`the database failed: ${error.message}`, { cause: error }), ignored = () => {};
-    const client = await this.#pool.connect().catch((error) => Promise.reject(failed(error)));
-    const run = (text, ...values) => client.query(text, values).catch((error) => Promise.reject(failed(error)));
+    for (let tried = 1; ; tried++) {
+      try {
+        return await this.#once(work);
+      } catch (error) {
+        if (tried === TRIES || !isRetried(error)) throw error;
+      }
+      await sleep(Math.random() * 5 * 2 ** tried);
+    }
+  }
+
+  async #client() {
+    let client;
+    try {
+      client = await this.#connect();
+    } catch (error) {
+      throw failed(error);
+    }
+    if (typeof client?.query !== "function") throw new StoreFailed(`the pool gave ${shown(client)}, and not a client of pg`);
+    return client;
+  }
+
+  async #once(work) {
+    const client = await this.#client(), ignored = () => {};
+    const run = async (text, ...values) => {
+      try {
+        return await client.query(text, values);
+      } catch (error) {
+        throw failed(error);
+      }
+    };
     let isSound = false;
-    client.on("error", ignored);
+    client.on?.("error", ignored);
     try {
       await run("begin isolation level read committed");
       try {
@@ -97,13 +150,20 @@ export class SqlServer {
         isSound = true;
         return told;
       } catch (error) {
-        isSound = await client.query("rollback").then(() => true, () => false);
+        isSound = await run("rollback").then(() => true, () => false);
         throw error;
       }
     } finally {
-      client.removeListener("error", ignored);
-      client.release(!isSound);
+      client.removeListener?.("error", ignored);
+      await givenBack(client, isSound);
     }
+  }
+
+  // Calls a hook of the site's. Where it passed over an error of the database the transaction has failed, and its commit would be none.
+  async #tell(name, run, told) {
+    if (this.#hooks[name] === null) return;
+    await this.#hooks[name]((text, values = []) => run(text, ...values), told);
+    await run("select 1");
   }
 
   // The transaction of a call, once the tables are there and of this version.
@@ -201,6 +261,7 @@ export class SqlServer {
         credential.id, credential.user, coseKeyOf(credential), credential.signCount, flagOf(credential.eligible), 0, flagOf(made.backedUp),
         credential.transports.join(","), made.aaguid, now());
       if (written.rowCount !== 1) throw new Refused(true, 15, "the credential was registered meanwhile");
+      await this.#tell("onRegistered", run, made);
       return made;
     });
   }
@@ -228,7 +289,9 @@ export class SqlServer {
          where id = $5 and sign_count = $6 and retired = 0`,
         credential.signCount, flagOf(credential.eligible), flagOf(backedUp), now(), credential.id, before.signCount);
       if (written.rowCount !== 1) throw new Refused(false, 15, "another sign-in of this credential was accepted meanwhile");
-      return signedIn.stored();
+      const told = signedIn.stored();
+      await this.#tell("onSignedIn", run, told);
+      return told;
     });
   }
 
@@ -256,7 +319,9 @@ export class SqlServer {
     const account = checkUser(user);
     return this.#call(async (run) => {
       await this.#endSessions(run, account, isOfAll);
-      return (await run(statement, account)).rowCount;
+      const { rowCount } = await run(statement, account);
+      if (isOfAll) await this.#tell("onErased", run, account.slice());
+      return rowCount;
     });
   }
 

@@ -1,6 +1,6 @@
 // The same of the servers that store.
 import { BadInput, Credential, KeepingServer, KeptCredential, MemoryStore, PasskeyServer, Refused, RowDamaged, Server, SessionDamaged, SignedIn, Store, StoreFailed, StoredServer } from "garvoeng";
-import { SqlPool, SqlServer } from "garvoeng/sql";
+import { SqlClient, SqlPool, SqlQuery, SqlServer } from "garvoeng/sql";
 
 const how = { rpName: "A site", profile: "strict" as const };
 const stored: StoredServer = new StoredServer("passkey-site", "site.db", "example.com", ["https://example.com"], { ...how, log: "all", lifetime: 300 });
@@ -61,3 +61,12 @@ stored.abandon(7);
 sql.abandon(7);
 // @ts-expect-error: an id is bytes
 sql.retire("AA");
+
+// Rows of the site's own, in the transaction; and a client for each call.
+declare const client: SqlClient;
+new SqlServer(new Server("example.com", ["https://example.com"]), () => client, {
+  onRegistered: async (query, { credential }) => void (await query("insert into own values ($1)", [credential.user])),
+  onSignedIn: (query: SqlQuery, told: SignedIn) => query("select 1", [told.credential.signCount]), onErased: (_, user) => user.length,
+});
+// @ts-expect-error: a hook is a function
+new SqlServer(new Server("example.com", ["https://example.com"]), pool, { onRegistered: 7 });

@@ -1,14 +1,16 @@
-"""A relying party whose sessions and credentials are rows of SQLite or PostgreSQL, by DB-API (PEP 249): `sqlite3`, `psycopg` and
-`psycopg2`. Each call is one transaction by the rules of docs/OPERATING.md, so that any number of processes may share a database."""
+"""A relying party whose sessions and credentials are rows of SQLite or PostgreSQL, by DB-API (PEP 249): `sqlite3`, `psycopg`,
+`psycopg2`, their pools, and an engine of SQLAlchemy over them. Each call is one transaction by the rules of docs/OPERATING.md, so that any number of processes may share a database."""
 from __future__ import annotations
 
 import inspect
+import random
+import time
 from contextlib import contextmanager
 from dataclasses import replace
-from typing import Any, Callable, Dict, Iterator, List, Mapping, Optional, Tuple
+from typing import Any, Callable, Dict, Iterator, List, Mapping, Optional, Tuple, TypeVar
 
-from . import limits, options
-from .answers import in_thread, refuse
+from . import limits, options, sql_connections
+from .answers import in_thread, kind_of, refuse
 from .errors import BadInput
 from .keeping import LIFETIME
 from .options import Ids
@@ -20,50 +22,81 @@ __all__ = ["LIFETIME", "SIGNED_IN", "KeptSignIn", "Rows", "SqlServer"]
 
 SIGNED_IN = 14 * 24 * 3600
 """How many seconds a visitor stays signed in, if not said."""
+TRIES = 8
+"""How often a transaction is made where another one is in its way."""
+
+Answered = TypeVar("Answered")
+Hook = Callable[[Rows, Any], Any]
+"""What a site does with its own rows, in the transaction of a call: `rows.run(statement, *values)`, whose values stand as `?`."""
 
 
 class SqlServer:
     """`Server` with its sessions and credentials in the tables `garvoeng_credential` and `garvoeng_session`.
 
-    `connect()` opens a connection, as `lambda: sqlite3.connect("site.sqlite", timeout=30)` or `lambda: psycopg.connect(address)`; each
-    call opens one and closes it. `lifetime` is how many seconds a session stays open. Call `prepare` before the first call.
+    `connect` is a pool (of psycopg_pool or psycopg2, or what has `getconn` and `putconn`, or `connection`), an engine of SQLAlchemy, or a
+    function that opens a connection, as `lambda: sqlite3.connect("site.sqlite", timeout=30)` or `lambda: psycopg.connect(address)`, or a
+    context manager of one. Each call takes one, and gives it back or closes it; what rows the connection makes, and whether it commits by
+    itself, is the same. `lifetime` is how many seconds a session stays open. Call `prepare` before the first call.
 
-    Raises what `Server` raises, and what the database does; then nothing was changed. A row that is damaged is `RowDamaged` or
-    `SessionDamaged`, where it is the one that is asked for. Where another sign-in of the credential was
-    accepted meanwhile that is `Refused` with W15, and where its id was registered meanwhile with G15.
+    `on_registered(rows, registered)`, `on_signed_in(rows, signed_in)` and `on_erased(rows, user)` are made in the transaction of the call
+    that stores it: what they raise is raised, and nothing is stored then. Where another transaction is in the way (a serialization failure
+    or a deadlock) a call is made again, eight times at most, and they with it.
+
+    Raises what `Server` raises, and what the database does; then nothing was changed, but that a commit whose answer was lost is done or is
+    not. A row that is damaged is `RowDamaged` or `SessionDamaged`, where it is the one that is asked for. Where another sign-in of the
+    credential was accepted meanwhile that is `Refused` with W15, and where its id was registered meanwhile with G15.
     """
 
-    def __init__(self, server: Server, connect: Callable[[], Any], *, lifetime: int = LIFETIME) -> None:
-        if not isinstance(server, Server) or not callable(connect):
-            raise TypeError("SqlServer takes a Server and a function that opens a connection, as lambda: sqlite3.connect(file)")
+    tries = TRIES
+
+    def __init__(self, server: Server, connect: Any, *, lifetime: int = LIFETIME, on_registered: Optional[Hook] = None,
+                 on_signed_in: Optional[Hook] = None, on_erased: Optional[Hook] = None) -> None:
+        if not isinstance(server, Server) or not sql_connections.can_connect(connect):
+            raise TypeError("SqlServer takes a Server and a pool, an engine, or a function that opens a connection, as lambda: sqlite3.connect(file)")
+        for hook, name in ((on_registered, "on_registered"), (on_signed_in, "on_signed_in"), (on_erased, "on_erased")):
+            if hook is not None and not callable(hook):
+                raise TypeError(f"{name} is a function of rows and what was done, and not {kind_of(hook)}")
         self.server = server
         self.connect = connect
         self.lifetime = limits.check_lifetime(lifetime)
+        self._on_registered, self._on_signed_in, self._on_erased = on_registered, on_signed_in, on_erased
+        self._is_sqlite: Optional[bool] = None
 
     @contextmanager
     def transaction(self, *, writes: bool = True) -> Iterator[Rows]:
         """The rows, in a transaction: it commits at the end, and rolls back at an exception. One that only reads waits for nobody."""
-        connection = self.connect()
-        if inspect.isawaitable(connection) or inspect.iscoroutinefunction(getattr(connection, "commit", None)):
-            refuse("connect", connection, "a connection whose calls are not awaited, as psycopg.connect opens", awaited_in="")
-        is_sqlite = type(connection).__module__.startswith("sqlite3")
-        try:
-            if is_sqlite:
-                connection.isolation_level = None
-                connection.execute("begin immediate" if writes else "begin")
-            yield Rows(connection.cursor(), is_sqlite, "?" if is_sqlite else "%s")
-            connection.commit()
-        except BaseException:
-            connection.rollback()
-            raise
-        finally:
-            connection.close()
+        with sql_connections.borrowed(self.connect) as connection:
+            if self._is_sqlite is None:
+                self._is_sqlite = sql_connections.is_sqlite(connection)
+            with sql_connections.transaction(connection, self._is_sqlite, writes) as cursor:
+                yield Rows(cursor, self._is_sqlite, "?" if self._is_sqlite else "%s")
+
+    def _within(self, work: Callable[[Rows], Answered], *, writes: bool = True) -> Answered:
+        """What `work` gives of the rows, in a transaction, which is made again where another one was in its way."""
+        for tried in range(1, self.tries + 1):
+            try:
+                with self.transaction(writes=writes) as rows:
+                    return work(rows)
+            except Exception as error:
+                if tried == self.tries or not sql_connections.is_retried(error):
+                    raise
+            time.sleep(random.random() * 0.005 * 2**tried)
+        raise AssertionError("a call is made once or more")
+
+    def _tell(self, name: str, hook: Optional[Hook], rows: Rows, told: Any) -> None:
+        """Calls a hook of the site's."""
+        if hook is None:
+            return
+        said = hook(rows, told)
+        if inspect.isawaitable(said):
+            refuse(name, said, "None: it is not awaited", awaited_in="")
+        # Where it passed over an error of the database the transaction has failed, and its commit would be none.
+        rows.run("select 1").fetchone()
 
     def prepare(self) -> None:
         """Makes the tables, or brings those of an older version up to this one. Any number of processes may call it at once. Raises
         `BadInput` where they are of a later version."""
-        with self.transaction() as rows:
-            rows.prepare()
+        self._within(Rows.prepare)
 
     # ---- registration
 
@@ -73,13 +106,16 @@ class SqlServer:
         the account's passkeys are excluded, unless a list is given. With `sign_in`, the number of `keep_sign_in`, the registration is
         that visitor's: it is finished with the same number alone, while it is signed in."""
         handle = limits.check_user(user)
-        with self.transaction() as rows:
+
+        def begin(rows: Rows) -> Tuple[Dict[str, Any], str]:
             rows.lock(handle)
             if not rows.is_signed_in(handle, sign_in):
                 raise BadInput("sign_in is the number of no open sign-in of this user")
             listed = options.fitting(rows.listed(handle)) if exclude is None else exclude
             made, session = self.server.register_begin(handle, user_name, display_name, exclude=listed, **how)
             return made, rows.begin(session, self.lifetime, sign_in)
+
+        return self._within(begin)
 
     async def register_begin_async(self, user: bytes, user_name: str, display_name: Optional[str] = None,
                                    **how: Any) -> Tuple[Dict[str, Any], str]:
@@ -90,10 +126,14 @@ class SqlServer:
     def register_complete(self, session: Optional[str], response: Mapping[str, Any], *, sign_in: Optional[str] = None) -> Registered:
         """What a RegistrationResponseJSON registers; it is stored, and the session closed. `sign_in` is that of the begin."""
         number = limits.check_session(session)
-        with self.transaction() as rows:
+
+        def complete(rows: Rows) -> Registered:
             made = self.server.register_complete(rows.take(number, RegistrationSession, sign_in), response, is_registered=rows.has)
             rows.add(made.credential, made.backed_up, made.aaguid)
-        return made
+            self._tell("on_registered", self._on_registered, rows, made)
+            return made
+
+        return self._within(complete)
 
     async def register_complete_async(self, session: Optional[str], response: Mapping[str, Any], *,
                                       sign_in: Optional[str] = None) -> Registered:
@@ -107,10 +147,13 @@ class SqlServer:
         `Server.authenticate_begin`. Where the account is known its passkeys are listed, unless a list is given; where they are more than
         a list may have, any that the browser finds may answer, and has to be the account's."""
         handle = None if user is None else limits.check_user(user)
-        with self.transaction() as rows:
+
+        def begin(rows: Rows) -> Tuple[Dict[str, Any], str]:
             own = rows.listed(handle) if allow is None and handle is not None else []
             made, session = self.server.authenticate_begin(user=handle, allow=options.allowed(own) if allow is None else allow, **how)
             return made, rows.begin(session, self.lifetime)
+
+        return self._within(begin)
 
     async def authenticate_begin_async(self, *, user: Optional[bytes] = None, **how: Any) -> Tuple[Dict[str, Any], str]:
         """The same, awaited as `register_begin_async`."""
@@ -119,10 +162,15 @@ class SqlServer:
     def authenticate_complete(self, session: Optional[str], response: Mapping[str, Any]) -> SignedIn:
         """Who signed in, of an AuthenticationResponseJSON; the counter is stored, and the session closed."""
         number = limits.check_session(session)
-        with self.transaction() as rows:
-            signed_in = self.server.authenticate_complete(rows.take(number, SignInSession), response, credential=rows.credential)
-            rows.count(signed_in)
-        return replace(signed_in, before=None)
+
+        def complete(rows: Rows) -> SignedIn:
+            judged = self.server.authenticate_complete(rows.take(number, SignInSession), response, credential=rows.credential)
+            rows.count(judged)
+            signed_in = replace(judged, before=None)
+            self._tell("on_signed_in", self._on_signed_in, rows, signed_in)
+            return signed_in
+
+        return self._within(complete)
 
     async def authenticate_complete_async(self, session: Optional[str], response: Mapping[str, Any]) -> SignedIn:
         """The same, awaited as `register_complete_async`."""
@@ -133,14 +181,12 @@ class SqlServer:
     def keep_sign_in(self, user: bytes, credential: Optional[bytes] = None, *, lifetime: int = SIGNED_IN) -> str:
         """Keeps that a visitor is signed in as this user, by this passkey or, where it is None, by other means: the number that a cookie
         has, 32 hex digits. It ends after `lifetime` seconds, by `abandon`, where the passkey is retired or deleted, and with the account."""
-        identity = None if credential is None else limits.check_id(credential, "credential")
-        with self.transaction() as rows:
-            return rows.keep_sign_in(limits.check_user(user), identity, lifetime)
+        identity, handle = None if credential is None else limits.check_id(credential, "credential"), limits.check_user(user)
+        return self._within(lambda rows: rows.keep_sign_in(handle, identity, lifetime))
 
     def signed_in(self, number: Optional[str], *, fresh: Optional[int] = None) -> Optional[KeptSignIn]:
         """Who is signed in by this number, or None; with `fresh`, if it is at most so many seconds ago."""
-        with self.transaction(writes=False) as rows:
-            return rows.signed_in(number, fresh)
+        return self._within(lambda rows: rows.signed_in(number, fresh), writes=False)
 
     # ---- sessions and credentials
 
@@ -148,13 +194,11 @@ class SqlServer:
         """The credentials of a user, or all, retired ones too, in order of registration. A row that is damaged is left out, and
         logged."""
         handle = None if user is None else limits.check_user(user)
-        with self.transaction(writes=False) as rows:
-            return rows.credentials(handle)
+        return self._within(lambda rows: rows.credentials(handle), writes=False)
 
     def add(self, credential: Credential, *, backed_up: Optional[bool] = None, aaguid: Optional[bytes] = None) -> None:
         """Stores a credential of another library (docs/COMING.md). Raises `Refused`, G15, where its id is registered."""
-        with self.transaction() as rows:
-            rows.add(credential, backed_up, aaguid)
+        self._within(lambda rows: rows.add(credential, backed_up, aaguid))
 
     def retire(self, credential: bytes, *, user: Optional[bytes] = None) -> bool:
         """A credential signs in no more, and its id stays taken; whether it did until now. The user's open registrations end. With `user`
@@ -164,8 +208,7 @@ class SqlServer:
     def retire_all(self, user: bytes) -> int:
         """A user's credentials sign in no more, and his open registrations end; how many did until now."""
         handle = limits.check_user(user)
-        with self.transaction() as rows:
-            return rows.retire_all(handle)
+        return self._within(lambda rows: rows.retire_all(handle))
 
     def delete(self, credential: bytes, *, user: Optional[bytes] = None) -> bool:
         """A credential is forgotten, and its id may be registered again, by anybody; whether it was there. The user's open registrations
@@ -174,17 +217,20 @@ class SqlServer:
 
     def _changed(self, change: Callable[[Rows, bytes, Optional[bytes]], bool], credential: bytes, user: Optional[bytes]) -> bool:
         identity, handle = limits.check_id(credential, "credential"), None if user is None else limits.check_user(user)
-        with self.transaction() as rows:
-            return change(rows, identity, handle)
+        return self._within(lambda rows: change(rows, identity, handle))
 
     def erase(self, user: bytes) -> int:
         """A user's credentials are forgotten; how many they were. The user's open sessions end, and who is signed in is so no more."""
         handle = limits.check_user(user)
-        with self.transaction() as rows:
-            return rows.erase(handle)
+
+        def erase(rows: Rows) -> int:
+            erased = rows.erase(handle)
+            self._tell("on_erased", self._on_erased, rows, handle)
+            return erased
+
+        return self._within(erase)
 
     def abandon(self, session: Optional[str]) -> bool:
         """A session ends, or what `keep_sign_in` kept; whether it was there."""
         number = limits.check_session(session)
-        with self.transaction() as rows:
-            return rows.end(number)
+        return self._within(lambda rows: rows.end(number))

@@ -20,6 +20,9 @@ def rows_of(connection: Any) -> Rows:
 
 
 class DjangoServer(SqlServer):
+    # A call is a part of the view's transaction, which is the one that would have to be made again.
+    tries = 1
+
     def __init__(self, server: Server, lifetime: int) -> None:
         super().__init__(server, lambda: connection, lifetime=lifetime)
 

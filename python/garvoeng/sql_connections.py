@@ -1,0 +1,176 @@
+"""Connections of a site's database, by DB-API (PEP 249): how one is had for a call, and given back."""
+from __future__ import annotations
+
+import inspect
+import logging
+from collections.abc import Mapping
+from contextlib import contextmanager, suppress
+from typing import Any, Callable, Iterator, Optional, Sequence, Tuple
+
+from .answers import refuse
+
+RETRIED = ("40001", "40P01")
+"""The SQLSTATE of a transaction that may be made again: serialization failure and deadlock (PostgreSQL, appendix A)."""
+_WANTED = "a pool, an engine, or a function that opens a connection, as lambda: sqlite3.connect(file)"
+_log = logging.getLogger("garvoeng")
+
+
+def can_connect(source: Any) -> bool:
+    """Whether connections can be had of it."""
+    return callable(source) or any(callable(getattr(source, name, None)) for name in ("getconn", "raw_connection", "connection"))
+
+
+def _pool_of(source: Any) -> Any:
+    """What lends connections by `getconn` and takes them back by `putconn`, as psycopg_pool and psycopg2.pool do; None where there is none.
+    Who hands in `pool.getconn` means the pool."""
+    owner = getattr(source, "__self__", None) if getattr(source, "__name__", None) == "getconn" else source
+    return owner if all(callable(getattr(owner, name, None)) for name in ("getconn", "putconn")) else None
+
+
+def _opened(source: Any) -> Any:
+    """What an engine of SQLAlchemy gives by `raw_connection`, a pool by `connection`, and a function by itself."""
+    opens = next((getattr(source, name) for name in ("raw_connection", "connection") if callable(getattr(source, name, None))), source)
+    return opens()
+
+
+def _check(connection: Any) -> Any:
+    """A connection whose calls are not awaited."""
+    if inspect.isawaitable(connection) or inspect.iscoroutinefunction(getattr(connection, "commit", None)):
+        refuse("connect", connection, "a connection whose calls are not awaited, as psycopg.connect opens", awaited_in="")
+    if not all(callable(getattr(connection, name, None)) for name in ("cursor", "commit", "rollback")):
+        refuse("connect", connection, f"a connection of DB-API; connect is {_WANTED}", awaited_in="")
+    return connection
+
+
+def _given_back(give: Callable[[Any], Any], connection: Any) -> None:
+    """What is committed stays so, whatever the way back says."""
+    try:
+        give(connection)
+    except Exception as error:
+        _log.warning("a connection could not be given back: %s", error)
+
+
+@contextmanager
+def _within(opened: Any) -> Iterator[Any]:
+    """The connection of a context manager. One that passes over exceptions does not pass over those of a call."""
+    raised: Optional[BaseException] = None
+    with opened as connection:
+        try:
+            yield _check(connection)
+        except BaseException as error:
+            raised = error
+            raise
+    if raised is not None:
+        raise raised
+
+
+@contextmanager
+def borrowed(source: Any) -> Iterator[Any]:
+    """A connection, which is given back, or closed, in the end."""
+    pool = _pool_of(source)
+    opened = pool.getconn() if pool is not None else _opened(source)
+    if not callable(getattr(opened, "cursor", None)) and callable(getattr(opened, "__enter__", None)):
+        with _within(opened) as connection:
+            yield connection
+        return
+    connection = _check(opened)
+    try:
+        yield connection
+    finally:
+        _given_back(pool.putconn if pool is not None else lambda one: one.close(), connection)
+
+
+def _tuples(_: Any) -> Callable[[Sequence[Any]], Tuple[Any, ...]]:
+    """Rows as tuples, as psycopg's cursors are told."""
+    return tuple
+
+
+def plain(row: Any) -> Optional[Tuple[Any, ...]]:
+    """A row as a tuple, whatever the connection makes of its rows."""
+    return None if row is None else tuple(row.values()) if isinstance(row, Mapping) else tuple(row)
+
+
+def _cursor(connection: Any, on_sqlite: bool) -> Any:
+    """A cursor whose rows are tuples, where it can be told so: those of sqlite3 and of psycopg."""
+    if on_sqlite:
+        cursor = connection.cursor()
+        cursor.row_factory = None
+        return cursor
+    try:
+        return connection.cursor(row_factory=_tuples)
+    except TypeError:
+        return connection.cursor()
+
+
+class Cursor:
+    """A connection's cursor, whose rows are tuples."""
+
+    def __init__(self, connection: Any, on_sqlite: bool) -> None:
+        self._cursor = _cursor(connection, on_sqlite)
+
+    def execute(self, statement: str, values: Sequence[Any] = ()) -> None:
+        self._cursor.execute(statement, tuple(values))
+
+    def fetchone(self) -> Optional[Tuple[Any, ...]]:
+        return plain(self._cursor.fetchone())
+
+    def fetchall(self) -> "list[Any]":
+        return [plain(row) for row in self._cursor.fetchall()]
+
+    def __iter__(self) -> "Iterator[Any]":
+        return iter(self.fetchall())
+
+    @property
+    def rowcount(self) -> int:
+        return int(self._cursor.rowcount)
+
+
+def is_sqlite(connection: Any) -> bool:
+    """Whether it is SQLite that answers, where a text is no number; to PostgreSQL the literal is one."""
+    cursor = _cursor(connection, False)
+    cursor.execute("select '1' = 1 as is_postgres")
+    said = plain(cursor.fetchone())
+    connection.rollback()
+    # A factory of sqlite3 may have left nothing of the row.
+    return not said or not said[0]
+
+
+@contextmanager
+def transaction(connection: Any, on_sqlite: bool, writes: bool) -> Iterator[Cursor]:
+    """A transaction, whatever the connection does by itself: it commits at the end, and rolls back at an exception. A connection that
+    can't be rolled back is closed, so that no pool lends it again."""
+    cursor, kept = Cursor(connection, on_sqlite), getattr(connection, "isolation_level", None)
+    by_itself = not on_sqlite and bool(getattr(connection, "autocommit", False))
+
+    def end(how: str) -> None:
+        if by_itself:
+            cursor.execute(how)
+        else:
+            getattr(connection, how)()
+
+    try:
+        if on_sqlite:
+            connection.isolation_level = None
+            cursor.execute("begin immediate" if writes else "begin")
+        else:
+            # What is locked is seen as it is then, and not as it was when the transaction began.
+            cursor.execute("begin isolation level read committed" if by_itself else "set transaction isolation level read committed")
+        yield cursor
+        end("commit")
+    except BaseException:
+        try:
+            end("rollback")
+        except Exception:
+            with suppress(Exception):
+                connection.close()
+        raise
+    finally:
+        if on_sqlite:
+            with suppress(Exception):
+                connection.isolation_level = kept
+
+
+def is_retried(error: BaseException) -> bool:
+    """Whether the transaction may be made again: another one was in its way."""
+    found = [error, getattr(error, "orig", None), error.__cause__]
+    return any(getattr(one, name, None) in RETRIED for one in found for name in ("sqlstate", "pgcode"))
