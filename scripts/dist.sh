@@ -69,10 +69,10 @@ machine_lines() {
     sed 's/^/machines /' "$top/c/out/machines/made"
 }
 
-# Writes the program of a crate that was built here into a folder, stripped, and prints its lines of dist/MANIFEST:
-# made_into FOLDER NAME CRATE SOURCES.
+# Writes the program of a crate that was built here into a folder, stripped and without a build id, and prints its lines of
+# dist/MANIFEST: made_into FOLDER NAME CRATE SOURCES.
 made_into() {
-    cp "$(built_of "$3")" "$1/$2" && tool llvm-strip --strip-all "$1/$2" || return 1
+    cp "$(built_of "$3")" "$1/$2" && tool llvm-strip --strip-all --remove-section=.note.gnu.build-id "$1/$2" || return 1
     file_lines "$2" "$1/$2"
     echo "$2 sources $4"
     echo "$2 glibc $(glibc_of "$1/$2")"
