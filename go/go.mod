@@ -1,0 +1,3 @@
+module garvoeng
+
+go 1.19
