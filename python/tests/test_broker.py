@@ -41,7 +41,7 @@ def registered(site, device, user=b"account 7"):
 
 def signed_in(site, device):
     options, session = site.authenticate_begin(user=b"account 7")
-    return site.authenticate_complete(session, device.sign_in(options)).sign_count
+    return site.authenticate_complete(session, device.sign_in(options)).credential.sign_count
 
 
 def running(file, name):
