@@ -201,7 +201,7 @@ def logs(tests):
     logger.addHandler(keep)
     logger.propagate = False
     with tests.server("log.db", log=True) as server:
-        found = raised(server.authenticate_complete, 5, Device().sign_in({"challenge": "AA"}))
+        found = raised(server.authenticate_complete, "5", Device().sign_in({"challenge": "AA"}))
     tests.check("refused and told", found == (Refused, "W1") and any("W1" in line for line in told), True)
     told.clear()
     with tests.server("log_all.db", log="all") as server:
