@@ -156,7 +156,7 @@ def start(tests):
 
         options, session = server.authenticate_begin()
         signed_in = server.authenticate_complete(session, page(options))
-    tests.check("the lines of the pages", (signed_in.user, signed_in.credential), (b"account 7", registered.credential.id))
+    tests.check("the lines of the pages", (signed_in.credential.user, signed_in.credential.id), (b"account 7", registered.credential.id))
 
 
 # What reads begins and finishes, a line of JSON each, and writes the program's answers, over the class of each host. A finish names the
