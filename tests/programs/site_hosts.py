@@ -600,7 +600,7 @@ def moved(tests):
     with tests.server("moved.db") as stored:
         tests.check("a credential that was moved in", [plain(row) for row in stored.rows()], [credential])
         options, session = stored.authenticate_begin(user=USER)
-        tests.check("signs in", stored.authenticate_complete(session, device.sign_in(options)).credential, credential.id)
+        tests.check("signs in", stored.authenticate_complete(session, device.sign_in(options)).credential.id, credential.id)
         rows = stored.rows()
     tests.check("moved out", [row.sign_count for row in rows], [1])
     with sqlite3.connect(tests.file("moved.db")) as file:
