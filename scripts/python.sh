@@ -1,4 +1,5 @@
-# Sourced, after packages.sh, by what installs the package garvoeng as users do, but for the registry. `top` is the repository.
+# Sourced, after packages.sh, by what installs the package garvoeng as users do, but for the registry, or runs it where it stands. `top` is the
+# repository.
 
 # Makes a folder for Python with the package in it: python_environment FOLDER. It is built from a copy, since setuptools writes
 # into what it builds.
@@ -13,4 +14,9 @@ python_environment() {
     status=$?
     rm -rf "$copy"
     return "$status"
+}
+
+# Runs a file of python/tests over the package as it stands: python_prints FILE.
+python_prints() {
+    "$top/python/prepare" && PYTHONPATH=$top/python /usr/bin/python3 -B "$top/python/tests/$1"
 }
