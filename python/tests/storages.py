@@ -5,12 +5,20 @@ from pathlib import Path
 
 import pytest
 
-from garvoeng import KeepingServer, MemoryStore, Server, StoredServer
+from garvoeng import KeepingServer, MemoryStore, Refused, Server, StoredServer
 from garvoeng.sql import SqlServer
 
 PROGRAM = os.environ.get("PROGRAM", str(Path(__file__).parents[2] / "dist" / "passkey-site"))
 POSTGRES = os.environ.get("POSTGRES")
 PARTY = "example.com", ["https://example.com"]
+
+
+def outcome(call, *words):
+    """Whether a call gives something, or the name of its refusal."""
+    try:
+        return bool(call(*words))
+    except Refused as refused:
+        return refused.name
 
 
 def emptied(connection):

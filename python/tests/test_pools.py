@@ -8,10 +8,10 @@ from contextlib import closing, contextmanager
 
 import pytest
 from device import Device, changed
-from storages import PARTY, emptied
+from storages import PARTY, emptied, outcome
 from test_storages import OTHER, USER, Visit, broken
 
-from garvoeng import BadInput, Refused, Server
+from garvoeng import BadInput, Server
 from garvoeng.sql import SqlServer
 
 POSTGRES = os.environ.get("POSTGRES")
@@ -459,12 +459,6 @@ def test_at_once_at_each_level(level):
     site.prepare()
     visit = Visit(site)
     visit.registers(device)
-
-    def outcome(call, *words):
-        try:
-            return bool(call(*words))
-        except Refused as refused:
-            return refused.name
 
     for _ in range(3):
         begun = [site.authenticate_begin() for _ in range(6)]

@@ -6,7 +6,7 @@ from concurrent.futures import ThreadPoolExecutor
 
 import pytest
 from device import AT, BE, BS, ED, UP, UV, Device, changed
-from storages import site
+from storages import outcome, site
 
 from garvoeng import BadInput, Credential, KeptCredential, Refused, Registered, SignedIn
 from garvoeng.forms import to_text
@@ -267,12 +267,6 @@ def at_once(visit):
     """Of responses over one session one is accepted, and of registrations of one id one."""
     device = Device()
     visit.registers(device)
-
-    def outcome(call, *words):
-        try:
-            return bool(call(*words))
-        except Refused as refused:
-            return refused.name
 
     for _ in range(3):
         options, session = visit.server.authenticate_begin()
