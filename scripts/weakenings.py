@@ -26,12 +26,13 @@ ONE_RUN = "agreement/proofs/OneRun.antt"
 HOSTS = "agreement/specs/Hosts.antt"
 STORED = "site_stored/specs/Calls.antt"
 HISTORY = "stored_runs/specs/History.antt"
-SHOWN = "stored_runs/proofs/Shown.antt"
 PIN_STEPS = "key_pin/specs/Steps.antt"
 PIN_STATE = "key_pin/specs/State.antt"
 PIN_HOST = "key_pin/specs/Host.antt"
 PIN_GRANTS = "key_pin/specs/Grants.antt"
 PIN_OUTCOMES = "key_pin/specs/Outcomes.antt"
+AMONG = "stored_runs/specs/Among.antt"
+STAGES = "stored_runs/proofs/Stages.antt"
 DATA = "(a : AuthenticatorData) → AuthOf x.rp.profile a x.response.auth_data → "
 GIVEN = "record { present = true; verified = true }"
 
@@ -453,15 +454,12 @@ WEAKENINGS = [
         (STORED, "        next = max old.next old.durable;\n", "        next = 1;\n")]),
     ("stored_trees", "an open finds any trees", [
         (HISTORY, "  pub trees : new.trees ≡ kept.trees\n", "  pub trees : Unit {0}\n"),
-        (SHOWN, "store reopened reopened 1,\n      (record { trees = refl;", "store reopened reopened 1,\n      (record { trees = tt;"),
-        (SHOWN, "store opened opened 0,\n        (record { trees = refl;", "store opened opened 0,\n        (record { trees = tt;")]),
+        (STAGES, "record { trees = refl; rp = refl;", "record { trees = tt; rp = refl;")]),
     ("stored_party", "an open finds another relying party", [
         (HISTORY, "  pub rp : new.state.rp ≡ kept.state.rp\n", "  pub rp : Unit {0}\n"),
-        (SHOWN, "store reopened reopened 1,\n      (record { trees = refl; rp = refl;", "store reopened reopened 1,\n      (record { trees = refl; rp = tt;"),
-        (SHOWN, "store opened opened 0,\n        (record { trees = refl; rp = refl;", "store opened opened 0,\n        (record { trees = refl; rp = tt;")]),
+        (STAGES, "record { trees = refl; rp = refl;", "record { trees = refl; rp = tt;")]),
     ("stored_commit", "what is told need not be committed", [
-        (HISTORY, "acts_from waiting (Opens finds_all ∷ steps) = (if finds_all then waiting else []) ++ acts_from [] steps\n",
-            "acts_from waiting (Opens finds_all ∷ steps) = waiting ++ acts_from [] steps\n")]),
+        (AMONG, "commits (Stores (Opens finds_all)) rest = finds_all\n", "commits (Stores (Opens finds_all)) rest = true\n")]),
     # of a key's PIN
     ("pin_any_param", "any pinUvAuthParam counts", [
         (PIN_HOST, "  if bytes_eq (shortened protocol tag) param then Ok tt else Err (refused 0x33)\n", "  if true then Ok tt else Err (refused 0x33)\n"),

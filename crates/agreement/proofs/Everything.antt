@@ -43,30 +43,30 @@ use Rattle.agreement.proofs.Sites.{Registered, registered_by, same_assertion, si
 
 module _ (valid : Validity) (public : Keys) (b : Below valid public) (keeps : KeepsAlg public) (x : Run) (h : IsHonestRun valid public x) (p : Place)
     (t : TakesPlace valid public x h p) where
-  abbrev a : AcceptsBoth valid public x
+  abbrev pub a : AcceptsBoth valid public x
   a = agrees valid public b keeps x h
 
-  abbrev first : site.SiteState
+  abbrev pub first : site.SiteState
   first = p.world.site p.site
 
   abbrev new_holder : Holder
   new_holder = p.world.holder p.holder
 
-  abbrev made_holder : Holder
+  abbrev pub made_holder : Holder
   made_holder = live.holder_made valid public x h p a
 
-  abbrev signed_holder : Holder
+  abbrev pub signed_holder : Holder
   signed_holder = live.holder_signed valid public x h p a
 
   -- ---- what happens at an authenticator that is like the one of the honest run
 
-  abbrev asks_first : ℕ → Event
+  abbrev pub asks_first : ℕ → Event
   asks_first k = Asks k x.registering.channel h.honest_registration.decided.asks.message h.honest_registration.decided.consent x.registering.words
 
-  abbrev asks_then : ℕ → Event
+  abbrev pub asks_then : ℕ → Event
   asks_then k = Asks k x.signing_in.channel h.honest_sign_in.decided.asks.message h.honest_sign_in.decided.consent x.signing_in.words
 
-  makes : (k : ℕ) (w : World) → w.holder k ≡ new_holder → EventEffect valid public w (asks_first k) (with_holder k made_holder w)
+  pub makes : (k : ℕ) (w : World) → w.holder k ≡ new_holder → EventEffect valid public w (asks_first k) (with_holder k made_holder w)
   makes k w there =
       let s = registering.stepped valid public b keeps x.registering h.idle h.honest_registration in
       let new = t.start.holders p.holder in (
@@ -80,7 +80,7 @@ module _ (valid : Validity) (public : Keys) (b : Below valid public) (keeps : Ke
             (ap (λ (g : Holder). g.signed) there ∙ new.signed) (ap (λ (g : Holder). g.made) there ∙ new.made)),
       )
 
-  asserts : (k : ℕ) (w : World) → w.holder k ≡ made_holder → EventEffect valid public w (asks_then k) (with_holder k signed_holder w)
+  pub asserts : (k : ℕ) (w : World) → w.holder k ≡ made_holder → EventEffect valid public w (asks_then k) (with_holder k signed_holder w)
   asserts k w there =
       let s = signing_in.stepped valid public b x.signing_in (registered valid public b keeps x h).credential 0 (idle valid public b keeps x h) h.honest_sign_in
       (here valid public b keeps x h) (omega arith) (asked valid public b keeps x h) in
@@ -113,7 +113,7 @@ module _ (valid : Validity) (public : Keys) (b : Below valid public) (keeps : Ke
     h.registered,
   )
 
-  by_response : (r : responses.AuthenticatorAttestationResponse) × Registered valid public b x.registering.site x.registering.session r x.registered
+  pub by_response : (r : responses.AuthenticatorAttestationResponse) × Registered valid public b x.registering.site x.registering.session r x.registered
   by_response =
       registered_by valid public b x.registering.site x.registered x.registering.session x.registering.channel x.registering.packets
       x.registering.out.client_data by_packets
@@ -124,10 +124,10 @@ module _ (valid : Validity) (public : Keys) (b : Below valid public) (keeps : Ke
   signs_by_packets : SiteActs valid x.signing_in.site signs_in_by p.signed_in
   signs_by_packets = ((length x.signing_in.packets, a.signs_in.reply, a.signs_in.accepted), t.after)
 
-  abbrev response : responses.AuthenticatorAssertionResponse
+  abbrev pub response : responses.AuthenticatorAssertionResponse
   response = live.response valid public x h p a
 
-  signs_by_response : sites.SignedIn valid public b x.signing_in.site x.signing_in.session response p.signed_in
+  pub signs_by_response : sites.SignedIn valid public b x.signing_in.site x.signing_in.session response p.signed_in
   signs_by_response =
       signed_in_by valid public b x.signing_in.site p.signed_in x.signing_in.session x.signing_in.channel x.signing_in.packets
       x.signing_in.out.client_data response signs_by_packets
@@ -135,13 +135,13 @@ module _ (valid : Validity) (public : Keys) (b : Below valid public) (keeps : Ke
 
   -- ---- sign-ins
 
-  abbrev row : registered_row.Credential
+  abbrev pub row : registered_row.Credential
   row = live.row valid public x h p a
 
   abbrev entry : Entry
   entry = live.asserted valid public x h p a
 
-  found : row_of response.credential x.signing_in.site.rows ≡ Some row
+  pub found : row_of response.credential x.signing_in.site.rows ≡ Some row
   found =
       let id : response.credential ≡ a.registers.credential.id =
       signing_in.credential_is valid public b x.signing_in (registered valid public b keeps x h).credential 0 (idle valid public b keeps x h) h.honest_sign_in
@@ -151,7 +151,7 @@ module _ (valid : Validity) (public : Keys) (b : Below valid public) (keeps : Ke
   found_at : (m : Moment) (i : ℕ) → m.old.site i ≡ x.signing_in.site → row_of response.credential (m.old.site i).rows ≡ Some row
   found_at m i there = ap (λ (s : site.SiteState). row_of response.credential s.rows) there ∙ found
 
-  was_signed : (m : Moment) (k : ℕ) → m.old.holder k ≡ signed_holder → WasSigned m.old row.key (message_of response)
+  pub was_signed : (m : Moment) (k : ℕ) → m.old.holder k ≡ signed_holder → WasSigned m.old row.key (message_of response)
   was_signed m k there = record {
     holder = k;
     made = subst (λ (g : Holder). Contains g.made row.key) (sym there) (0, omega arith, refl);

@@ -23,7 +23,7 @@ ghost use Rattle.cose.specs.Bench.{bench_public, bench_valid};
 use cose::{BenchScheme, Signer, Verifier};
 
 /// What is used of the laws of the crates below.
-fn below<V: Verifier>()
+pub fn below<V: Verifier>()
     ensures { (verifier : V) (public : Keys) → Below (V.valid verifier) public }
 {
     hidframe::one_frame_list();

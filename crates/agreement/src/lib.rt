@@ -3,4 +3,4 @@
 
 mod law;
 
-pub use law::{agreement, full_run, hosts_runs, of_all_runs};
+pub use law::{agreement, below, full_run, hosts_runs, of_all_runs};

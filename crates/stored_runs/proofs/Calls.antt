@@ -33,12 +33,12 @@ use Rattle.site_stored.specs.declared.registration.Registered.{Registered}
 use Rattle.authenticator.specs.Steps.{Keys}
 use Rattle.agreement.specs.World.{after_delete, with_room, words_of}
 use Rattle.agreement.specs.World as world
-use Rattle.stored_runs.specs.History.{Abandons, Accepts, AreNamed, Begins, Begun, Call, Deletes, Does, Erases, IsHanded, IsKept, IsOwn, Kept, Registers, Retires, RetiresAll, SignsIn, TellsThem, act_of, begun_at, begun_by, second_of}
+use Rattle.stored_runs.specs.History.{Abandons, Accepts, AreBegun, AreNamed, Begins, Begun, Call, Deletes, Does, Erases, IsHanded, IsKept, IsOwn, Kept, Registers, Retires, RetiresAll, SignsIn, TellsThem, act_of, begun_at, begun_by, second_of, session_in}
 use Rattle.stored_runs.proofs.Pieces.{Leads, happens, stays}
 use Rattle.stored_runs.proofs.Rows.{removed_rows, tells_ids}
 use Rattle.stored_runs.proofs.Standing.{IsGoing, IsOver, Stands, alike, now_over, over_later, same_number, still_over}
 use Rattle.stored_runs.proofs.Users.{erases, retires_all}
-use Rattle.stored_runs.proofs.Texts.{AreBegun, Laws, only_one, own_session, session_in}
+use Rattle.stored_runs.proofs.Texts.{Laws, only_one, own_session}
 
 -- what a session for sign-in expects, by its text; and one for registration
 for_text : (key : List ℕ) (e : Expected) (x : SealedSignIn) → ceremony_of key e ≡ sign_in x → (f : ExpectedSignIn) × (e ≡ ForSignIn f) × (x ≡ sealed_sign_in key f)

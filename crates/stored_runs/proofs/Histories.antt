@@ -2,23 +2,35 @@
 use Rattle.std.proofs.Common.{◌≡◌, ◌<◌, ◌≤◌, ◌+◌, ◌⊎◌, inl, inr, ℕ, Bool, true, false, List, [], ◌∷◌, ◌++◌, refl, sym, ap, ◌∙◌, subst, append-nil, arith}
 use Rattle.std.proofs.lemmas.Grind.{common_steps}
 use Rattle.std.proofs.lemmas.List.Elements.{Contains-append_cases}
-use Rattle.std.specs.Prelude.{Contains, None, Some, min, nat_lt}
+use Rattle.std.specs.Prelude.{Contains, None, Option, Some, if◌then◌else◌, min, nat_lt}
 use Rattle.std.specs.FinMap as finite
 use Rattle.cose.specs.Schemes.{Validity}
 use Rattle.verification.specs.Records.{RelyingParty}
 use Rattle.site.specs.State as site
 use Rattle.site_stored.specs.State.{StoredState}
 use Rattle.authenticator.specs.Steps.{Keys}
-use Rattle.agreement.specs.World.{SiteEvent}
+use Rattle.agreement.specs.Begun.{SessionsOfAllRuns}
+use Rattle.agreement.specs.Dropped.{DropsOfAllRuns}
+use Rattle.agreement.specs.Hosts.{HostsRuns}
+use Rattle.agreement.specs.Ledger.{LedgerOfAllRuns, world_after}
+use Rattle.agreement.specs.Lived.{with_site}
+use Rattle.agreement.specs.World.{Happens, IsRun, Moment, SiteEvent, World}
+use Rattle.agreement.proofs.Lived.{site_there}
+use Rattle.site_rows.specs.Held.{rows_of}
+use Rattle.site_rows.specs.declared.ending.Ending.{Ending}
 use Rattle.agreement.specs.Agreement.{OfAllRuns}
-use Rattle.stored_runs.specs.History.{Abandons, AreNamed, Begins, Begun, Call, Calls, Commits, Deletes, Does, Erases, IsCalled, IsCommitted, IsHistory, IsKept, Kept, Opens, Registers, Retires, RetiresAll, SignsIn, Step, Store, acts_from, act_of, began, begun_by, handed_out, second_of}
-use Rattle.stored_runs.specs.Stored.{StandsFor, StoredRuns}
+use Rattle.stored_runs.specs.History.{Abandons, AreBegun, AreNamed, Begins, Begun, Call, Calls, Commits, Deletes, Does, Erases, IsCalled, IsCommitted, IsKept, Kept, Opens, Registers, Retires, RetiresAll, SignsIn, Step, Store, Takes, act_of, begun_by, handed_out, second_of}
+use Rattle.stored_runs.specs.Among.{Act, Elsewhere, IsHistory, Plays, Scene, Stores, Told, Turn, beside, done_at, is_committed, kept, scene_after, told_of}
+use Rattle.stored_runs.specs.Among.{commits as turn_commits}
+use Rattle.stored_runs.specs.Stored.{StandsFor, StoredRuns, told_in}
 use Rattle.stored_runs.proofs.Calls.{begins, leads}
 use Rattle.stored_runs.proofs.Names.{named_after}
 use Rattle.stored_runs.proofs.Opened.{commits, opens, same_placed, up_to}
-use Rattle.stored_runs.proofs.Pieces.{Leads, after, by_the_same, here}
+use Rattle.stored_runs.proofs.Elsewhere.{happens_too, told_as, told_elsewhere}
+use Rattle.stored_runs.proofs.Pieces.{Leads, Reaches, after, beside_it, done_alike, here, last_site, own_site, run_joined, told_joined, world_joined}
 use Rattle.stored_runs.proofs.Standing.{IsGoing, IsOver, Stands, alike}
-use Rattle.stored_runs.proofs.Texts.{AreBegun, Laws, among, one_more, only_one}
+use Rattle.stored_runs.proofs.Texts.{Laws, among, one_more, only_one}
+use Rattle.stored_runs.proofs.Wider.{plays}
 
 -- what a history keeps: both are kept, under one key and for one rp id, and each text that was handed out is that of a session of its own
 pub record Goes {S : Type 0} (s : Store S) : Type 0 where
@@ -46,6 +58,10 @@ less_or_not a b = go (nat_lt a b) refl
     go : (t : Bool) → nat_lt a b ≡ t → (a < b) ⊎ (b ≤ a)
     go true is = inl (grind (arith, common_steps, is))
     go false is = inr (grind (arith, common_steps, is))
+
+kept_done : (i : ℕ) (b : Bool) (w : World) (es : List SiteEvent) → (if b then done_at i w es else []) ≡ done_at i w (if b then es else [])
+kept_done i true w es = refl
+kept_done i false w es = refl
 
 module _ {S : Type 0} (valid : Validity) (public : Keys) (laws : Laws valid) (i : ℕ) where
   -- where all is committed, it is what is now
@@ -217,90 +233,223 @@ module _ {S : Type 0} (valid : Validity) (public : Keys) (laws : Laws valid) (i 
       let is = among (λ c. nat_lt c.number old.committed.state.reserved) old.begun b there in
       (is.0, let t = is.1 in grind (arith, common_steps, t))
 
+  -- ---- steps of the store
+
+  abbrev Stood : Bool → Store S → site.SiteState → Type 0
+  Stood true s t = StandsNow s t
+  Stood false s t = StandsCommitted s t
+
+  both_stand : (b : Bool) (s : Store S) → Goes s → s.committed ≡ s.now → (t : site.SiteState) → StandsNow s t → Stood b s t
+  both_stand true s goes same t is = is
+  both_stand false s goes same t is = whole s goes same t is
+
+  calls : (b : Bool) (old next : Store S) (c : Call) (s : site.SiteState) (goes : Goes old) → Stood b old s → (called : IsCalled valid old c next) → IsKept next.now
+      → Leads valid public i s (if b then act_of c else []) (Stood b next)
+  calls true old next c s goes at called kept = now_after old next c goes called kept s at
+  calls false old next c s goes at called kept = committed_after old next c goes called kept c refl called.does s at
+
+  -- all is committed then
+  record IsLedOn (s : site.SiteState) (next : Store S) : Type 0 where
+    pub goes : Goes next
+    pub committed : next.committed ≡ next.now
+    pub leads : Leads valid public i s [] (StandsNow next)
+
+  commit : (old next : Store S) (s : site.SiteState) → Goes old → StandsNow old s → Takes valid old Commits next → IsKept next.now → IsLedOn s next
+  commit old next s goes at h kept =
+      let is = h.1 in
+      let up = commit_next old.now next.now h.0 in
+      record {
+        goes = goes_on old next old.begun goes kept (subst AreNamed (sym h.0.0) goes.named) is.committed is.begun (commit_key old.now next.now h.0) (commit_rp old.now next.now h.0)
+            (λ b there. (there, let below = goes.begun.given b there in omega arith));
+        committed = is.committed;
+        leads = commits valid public i old.now next.now goes.now kept h.0 old.begun next.begun old.second next.second s at is.second
+            (λ b there. let before = subst (λ (bs : List Begun). Contains bs b) is.begun there in (before, goes.begun.given b before));
+      }
+
+  find_all : (old next : Store S) (s : site.SiteState) → Goes old → StandsNow old s → Takes valid old (Opens true) next → IsKept next.now → IsLedOn s next
+  find_all old next s goes at h kept =
+      let is = h.1 in
+      let mid = h.0.0 in
+      let up = commit_next old.now mid h.0.1 in
+      let reserved = up_to valid public laws.stored i mid next.now h.0.2 kept h.0.3 in
+      let under = h.0.2.given in
+      record {
+        goes = goes_on old next old.begun goes kept
+            (subst AreNamed (same_placed valid public laws.stored i mid next.now h.0.2 kept h.0.3) (subst AreNamed (sym h.0.1.0) goes.named)) is.committed is.begun
+            (h.0.3.key ∙ commit_key old.now mid h.0.1) (h.0.3.rp ∙ commit_rp old.now mid h.0.1)
+            (λ b there. (there, let below = goes.begun.given b there in omega arith));
+        committed = is.committed;
+        leads = after valid public i s [] [] (Stands mid mid.state.next old.begun old.second) (StandsNow next)
+            (commits valid public i old.now mid goes.now h.0.2 h.0.1 old.begun old.begun old.second old.second s at refl (λ b there. (there, goes.begun.given b there)))
+            (λ u here_too. opens valid public laws.stored i mid next.now h.0.2 kept h.0.3 mid.state.next old.begun next.begun old.second next.second u here_too under is.second
+            (λ b there. let before = subst (λ (bs : List Begun). Contains bs b) is.begun there in (before, let below = goes.begun.given b before in omega arith)));
+      }
+
+  find_committed : (old next : Store S) (s : site.SiteState) → Goes old → StandsCommitted old s → Takes valid old (Opens false) next → IsKept next.now → IsLedOn s next
+  find_committed old next s goes at h kept =
+      let is = h.1 in
+      let reserved = up_to valid public laws.stored i old.committed next.now goes.committed kept h.0 in
+      record {
+        goes = goes_on old next (handed_out old.committed old.begun) goes kept
+            (subst AreNamed (same_placed valid public laws.stored i old.committed next.now goes.committed kept h.0) goes.named_before) is.committed is.begun (h.0.key ∙ goes.key) (h.0.rp ∙ goes.rp)
+            (λ b there. let is_among = handed old b there in (is_among.0, let below = is_among.1 in omega arith));
+        committed = is.committed;
+        leads = opens valid public laws.stored i old.committed next.now goes.committed kept h.0 (next_of old) old.begun next.begun old.second next.second s at (grind (arith, common_steps)) is.second
+            (λ b there. let is_among = handed old b (subst (λ (bs : List Begun). Contains bs b) is.begun there) in
+            (is_among.0, let given = goes.begun.given b is_among.0 in let below = is_among.1 in grind (arith, common_steps)));
+      }
+
   -- ---- a history
 
-  -- from the site of a run at the last commit, by what waits to the site as it is, and by nothing to what is committed
-  pub follows : (steps : List Step) (old end : Store S) (waiting : List SiteEvent) (s : site.SiteState) → Goes old → Leads valid public i s waiting (StandsNow old)
-      → Leads valid public i s [] (StandsCommitted old) → IsHistory valid old steps end → Leads valid public i s (acts_from waiting steps) (StandsFor end)
-  follows [] old end waiting s goes now committed h =
-      (committed.0, subst (λ (x : Store S). StandsFor x committed.0) (sym h) (stands_for old goes committed.0 committed.1), committed.2)
-  follows (Calls c ∷ steps) old end waiting s goes now committed h =
-      let next = h.0 in
-      follows steps next end (waiting ++ act_of c) s (goes_after old next c goes h.1 h.2)
-      (after valid public i s waiting (act_of c) (StandsNow old) (StandsNow next) now (now_after old next c goes h.1 h.2))
-      (after valid public i s [] [] (StandsCommitted old) (StandsCommitted next) committed (committed_after old next c goes h.1 h.2 c refl h.1.does))
-      h.3
-  follows (Commits ∷ steps) old end waiting s goes now committed h =
-      let next = h.0 in
-      let is = h.1.1 in
-      let up = commit_next old.now next.now h.1.0 in
-      let goes_next = goes_on old next old.begun goes h.2 (subst AreNamed (sym h.1.0.0) goes.named) is.committed is.begun (commit_key old.now next.now h.1.0) (commit_rp old.now next.now h.1.0)
-      (λ b there. (there, let below = goes.begun.given b there in omega arith)) in
-      after valid public i s waiting (acts_from [] steps) (StandsNow next) (StandsFor end)
-      (by_the_same valid public i s (waiting ++ []) waiting (StandsNow next) (append-nil waiting)
-      (after valid public i s waiting [] (StandsNow old) (StandsNow next) now
-      (λ t at. commits valid public i old.now next.now goes.now h.2 h.1.0 old.begun next.begun old.second next.second t at is.second
-      (λ b there. let before = subst (λ (bs : List Begun). Contains bs b) is.begun there in (before, goes.begun.given b before)))))
-      (λ t at. follows steps next end [] t goes_next (here valid public i t (StandsNow next) at)
-      (here valid public i t (StandsCommitted next) (whole next goes_next is.committed t at)) h.3)
-  follows (Opens true ∷ steps) old end waiting s goes now committed h =
-      let next = h.0 in
-      let is = h.1.1 in
-      let mid = h.1.0.0 in
-      let up = commit_next old.now mid h.1.0.1 in
-      let reserved = up_to valid public laws.stored i mid next.now h.1.0.2 h.2 h.1.0.3 in
-      let under = h.1.0.2.given in
-      let goes_next = goes_on old next old.begun goes h.2
-      (subst AreNamed (same_placed valid public laws.stored i mid next.now h.1.0.2 h.2 h.1.0.3) (subst AreNamed (sym h.1.0.1.0) goes.named)) is.committed is.begun (h.1.0.3.key ∙ commit_key old.now mid h.1.0.1) (h.1.0.3.rp ∙ commit_rp old.now mid h.1.0.1)
-      (λ b there. (there, let below = goes.begun.given b there in omega arith)) in
-      after valid public i s waiting (acts_from [] steps) (StandsNow next) (StandsFor end)
-      (by_the_same valid public i s (waiting ++ []) waiting (StandsNow next) (append-nil waiting)
-      (after valid public i s waiting [] (StandsNow old) (StandsNow next) now
-      (λ t at. after valid public i t [] [] (Stands mid mid.state.next old.begun old.second) (StandsNow next)
-      (commits valid public i old.now mid goes.now h.1.0.2 h.1.0.1 old.begun old.begun old.second old.second t at refl (λ b there. (there, goes.begun.given b there)))
-      (λ u here_too. opens valid public laws.stored i mid next.now h.1.0.2 h.2 h.1.0.3 mid.state.next old.begun next.begun old.second next.second u here_too under is.second
-      (λ b there. let before = subst (λ (bs : List Begun). Contains bs b) is.begun there in (before, let below = goes.begun.given b before in omega arith))))))
-      (λ t at. follows steps next end [] t goes_next (here valid public i t (StandsNow next) at)
-      (here valid public i t (StandsCommitted next) (whole next goes_next is.committed t at)) h.3)
-  follows (Opens false ∷ steps) old end waiting s goes now committed h =
-      let next = h.0 in
-      let is = h.1.1 in
-      let reserved = up_to valid public laws.stored i old.committed next.now goes.committed h.2 h.1.0 in
-      let goes_next = goes_on old next (handed_out old.committed old.begun) goes h.2
-      (subst AreNamed (same_placed valid public laws.stored i old.committed next.now goes.committed h.2 h.1.0) goes.named_before) is.committed is.begun (h.1.0.key ∙ goes.key) (h.1.0.rp ∙ goes.rp)
-      (λ b there. let is_among = handed old b there in (is_among.0, let below = is_among.1 in omega arith)) in
-      after valid public i s [] (acts_from [] steps) (StandsNow next) (StandsFor end)
-      (after valid public i s [] [] (StandsCommitted old) (StandsNow next) committed
-      (λ t at. opens valid public laws.stored i old.committed next.now goes.committed h.2 h.1.0 (next_of old) old.begun next.begun old.second next.second t at (grind (arith, common_steps)) is.second
-      (λ b there. let is_among = handed old b (subst (λ (bs : List Begun). Contains bs b) is.begun there) in
-      (is_among.0, let given = goes.begun.given b is_among.0 in let below = is_among.1 in grind (arith, common_steps)))))
-      (λ t at. follows steps next end [] t goes_next (here valid public i t (StandsNow next) at)
-      (here valid public i t (StandsCommitted next) (whole next goes_next is.committed t at)) h.3)
+  -- by an act: whatever is to be committed stands as it is, and else as it was committed
+  record Stepped (rest : Bool) (old : Scene S) (act : Act) (new : Scene S) (s : site.SiteState) : Type 0 where
+    pub goes : Goes new.store
+    pub acts : List SiteEvent
+    pub leads : Leads valid public i s acts (Stood rest new.store)
+    pub same : new.world ≡ old.world
+    pub told : (w : World) → told_of i w rest act ≡ done_at i w acts
 
-pub stored : (S : Type 0) (valid : Validity) (public : Keys) → Laws valid → OfAllRuns valid public → StoredRuns S valid public
-stored S valid public laws all w i start second steps end kept names is h =
-    let first : Store S = began start second in
-    let goes : Goes first = record {
-      now = kept;
-      committed = kept;
-      named = names;
-      named_before = names;
-      key = refl;
-      rp = refl;
-      begun = record { each = λ b there. absurd (none_begun b there); given = λ b there. absurd (none_begun b there); own = λ b c there. absurd (none_begun b there) };
-    } in
-    let given = kept.given in
-    let stands : StandsNow first (w.site i) = record {
-      rp = is.rp;
-      policy = is.policy;
-      rows = is.rows;
-      next = is.next ∙ grind (arith, common_steps, given);
-      each = λ b there. absurd (none_begun b there);
-    } in
-    let there = follows valid public laws i steps first end [] (w.site i) goes (here valid public i (w.site i) (StandsNow first) stands)
-    (here valid public i (w.site i) (StandsCommitted first) (whole valid public laws i first goes refl (w.site i) stands)) h in
-    let run = there.2 w refl in
-    (there.0, there.1, (run, λ begins_so. all w run.run begins_so run.is_run))
+  whole_step : (rest : Bool) (old new : Scene S) (act : Act) (s : site.SiteState) → ((w : World) → told_of i w rest act ≡ []) → new.world ≡ old.world → IsLedOn s new.store
+      → Stepped rest old act new s
+  whole_step rest old new act s none same all = record {
+    goes = all.goes;
+    acts = [];
+    leads = (all.leads.0, both_stand rest new.store all.goes all.committed all.leads.0 all.leads.1, all.leads.2);
+    same = same;
+    told = none;
+  }
+
+  step : (rest : Bool) (old new : Scene S) (it : Step) (s : site.SiteState) → Goes old.store → Stood (turn_commits (Stores it) rest) old.store s
+      → Plays valid public i old (Stores it) new → Stepped rest old (Stores it) new s
+  step rest old new (Calls c) s goes at h = record {
+    goes = goes_after old.store new.store c goes h.0 h.1;
+    acts = if rest then act_of c else [];
+    leads = calls rest old.store new.store c s goes at h.0 h.1;
+    same = h.2;
+    told = λ w. kept_done i rest w (act_of c);
+  }
+  step rest old new Commits s goes at h = whole_step rest old new (Stores Commits) s (λ w. refl) h.2 (commit old.store new.store s goes at h.0 h.1)
+  step rest old new (Opens true) s goes at h = whole_step rest old new (Stores (Opens true)) s (λ w. refl) h.2 (find_all old.store new.store s goes at h.0 h.1)
+  step rest old new (Opens false) s goes at h = whole_step rest old new (Stores (Opens false)) s (λ w. refl) h.2 (find_committed old.store new.store s goes at h.0 h.1)
+
+  -- from a world in which site i stands for the store
+  record RunsOn (w : World) (last : Scene S) (list : List Told) : Type 0 where
+    pub run : List Moment
+    pub is_run : IsRun valid public w run
+    pub site : site.SiteState
+    pub stands_for : StandsFor last.store site
+    pub end : world_after w run ≡ with_site i site last.world
+    pub told : told_in i run ≡ list
+
+  -- by one act, and then by the rest
+  then_on : (w v : World) (s u : site.SiteState) (acts : List SiteEvent) (end : Scene S) (before more : List Told) → w ≡ with_site i s v → before ≡ done_at i v acts
+      → Reaches valid public w i u acts → RunsOn (with_site i u v) end more → RunsOn w end (before ++ more)
+  then_on w v s u acts end before more is told first rest = record {
+    run = first.run ++ rest.run;
+    is_run = run_joined valid public w first.run rest.run first.is_run (subst (λ (x : World). IsRun valid public x rest.run) (sym there) rest.is_run);
+    site = rest.site;
+    stands_for = rest.stands_for;
+    end = world_joined w first.run rest.run ∙ ap (λ (x : World). world_after x rest.run) there ∙ rest.end;
+    told =
+        told_joined i first.run rest.run ∙ ap (λ ts. ts ++ told_in i rest.run) (first.told ∙ same_done ∙ sym told)
+        ∙ ap (λ ts. before ++ ts) rest.told;
+  } where
+    there : world_after w first.run ≡ with_site i u v
+    there = first.end ∙ ap (with_site i u) is ∙ last_site i s u v
+
+    same_done : done_at i w acts ≡ done_at i v acts
+    same_done = done_alike i acts w v (ap (beside i) is ∙ beside_it i s v)
+
+  -- from whatever world in which site i stands for the store of a scene
+  abbrev RunsFrom : Scene S → List (Turn S) → Type 0
+  RunsFrom first turns =
+      (w : World) (s : site.SiteState) → w ≡ with_site i s first.world → Goes first.store → Stood (is_committed turns) first.store s
+      → RunsOn w (scene_after first turns) (kept i turns)
+
+  by_one : (old new : Scene S) (act : Act) (turns : List (Turn S)) → Plays valid public i old act new → RunsFrom new turns → (w : World) (s : site.SiteState)
+      → w ≡ with_site i s old.world → Goes old.store → Stood (turn_commits act (is_committed turns)) old.store s
+      → RunsOn w (scene_after new turns) (told_of i old.world (is_committed turns) act ++ kept i turns)
+  by_one old new (Stores it) turns h more w s is goes at =
+      let stepped = step (is_committed turns) old new it s goes at h in
+      let u = stepped.leads.0 in
+      then_on w new.world s u stepped.acts (scene_after new turns) (told_of i old.world (is_committed turns) (Stores it)) (kept i turns)
+      (is ∙ ap (with_site i s) (sym stepped.same))
+      (ap (λ (x : World). told_of i x (is_committed turns) (Stores it)) (sym stepped.same) ∙ stepped.told new.world)
+      (stepped.leads.2 w (ap (λ (x : World). x.site i) is ∙ site_there i s old.world))
+      (more (with_site i u new.world) u refl stepped.goes stepped.leads.1)
+  by_one old new (Elsewhere e end) turns h more w s is goes at =
+      let on = more (with_site i s new.world) s refl (subst Goes (sym h.2) goes) (subst (λ (x : Store S). Stood (is_committed turns) x s) (sym h.2) at) in
+      record {
+        run = record { old = w; event = e; end = end; new = with_site i s new.world } ∷ on.run;
+        is_run = (
+          refl,
+          subst (λ (x : World). Happens valid public x e end (with_site i s new.world)) (sym is)
+              (happens_too i s valid public old.world new.world e end h.0 h.1),
+          on.is_run,
+        );
+        site = on.site;
+        stands_for = on.stands_for;
+        end = on.end;
+        told =
+            ap (λ (ts : List Told). ts ++ told_in i on.run)
+            (told_elsewhere i e end w h.0 ∙ ap (told_as e end) (ap (beside i) is ∙ beside_it i s old.world))
+            ∙ ap (λ (ts : List Told). told_as e end (beside i old.world) ++ ts) on.told;
+      }
+
+  follows : {I : Type 0} (narrow : I → Validity) → HostsRuns narrow valid public → (turns : List (Turn S)) (first : Scene S) → IsHistory narrow valid public i first turns
+      → RunsFrom first turns
+  follows narrow hosts [] first h = λ w s is goes at. record { run = []; is_run = tt; site = s; stands_for = stands_for first.store goes s at; end = is; told = refl }
+  follows narrow hosts (turn ∷ turns) first h =
+      subst (λ (x : Scene S). RunsFrom x (turn ∷ turns)) h.0
+      (by_one turn.old turn.new turn.act turns (plays narrow valid public hosts h.1.0 h.1.1 i turn.old turn.new turn.act h.1.2)
+      (follows narrow hosts turns turn.new h.2))
+
+pub stored : {I : Type 0} (S : Type 0) (narrow : I → Validity) (valid : Validity) (public : Keys) → Laws valid → HostsRuns narrow valid public → OfAllRuns valid public
+    → LedgerOfAllRuns valid public → DropsOfAllRuns valid public → SessionsOfAllRuns valid public → StoredRuns S narrow valid public
+stored {I} S narrow valid public laws hosts all ledger drops sessions i first turns starts is h = (
+  record { run = there.run; is_run = there.is_run; site = there.site; stands_for = there.stands_for; end = there.end; told = there.told },
+  λ w before begins_so is_before same.
+      let run = run_joined valid public w before there.run is_before (subst (λ (x : World). IsRun valid public x there.run) (sym same) there.is_run) in
+      record {
+        agreement = all w (before ++ there.run) begins_so run;
+        ledger = λ past later parts. ledger w past later begins_so (subst (IsRun valid public w) parts run);
+        sessions = λ past later parts j n e. sessions w past later begins_so (subst (IsRun valid public w) parts run) j n e;
+        dropped = drops w (before ++ there.run) run;
+      },
+)
   where
-    none_begun : (b : Begun) → Contains [] b → ⊥
-    none_begun b there = let bad : there.0 < 0 = there.1 in omega arith
+    goes : Goes first.store
+    goes = record {
+      now = starts.kept;
+      committed = subst IsKept (sym starts.committed) starts.kept;
+      named = starts.named;
+      named_before = subst (λ (k : Kept S). AreNamed k.placed) (sym starts.committed) starts.named;
+      key = ap (λ (k : Kept S). k.state.key) starts.committed;
+      rp = ap (λ (k : Kept S). k.state.rp) starts.committed;
+      begun = starts.begun;
+    }
+
+    reserved : first.store.now.state.next ≤ first.store.committed.state.reserved
+    reserved = let given = starts.kept.given in let e = ap (λ (k : Kept S). k.state.reserved) starts.committed in omega arith
+
+    going_or_over : (b : Begun) → Contains first.store.begun b → (o : Option Ending) → finite.get first.store.now.ended b.number ≡ o → (late : Bool) → nat_lt first.store.second b.ends ≡ late
+        → IsGoing (first.world.site i).sessions b ⊎ IsOver first.store.now.ended first.store.second b
+    going_or_over b there (Some e) ended late time = inr (inr (e, ended, starts.known b e there ended))
+    going_or_over b there None ended false time = inr (inl (grind (arith, common_steps, time)))
+    going_or_over b there None ended true time =
+        let given = starts.begun.given b there in
+        let under = reserved in
+        inl (is.open_sessions b there (omega arith) (ap (λ (k : Kept S). finite.get k.ended b.number) starts.committed ∙ ended) (grind (arith, common_steps, time)))
+
+    stands : StandsNow first.store (first.world.site i)
+    stands = record {
+      rp = is.rp ∙ ap (λ (k : Kept S). k.state.rp) starts.committed;
+      policy = is.policy ∙ ap (λ (k : Kept S). k.state.policy) starts.committed;
+      rows = is.rows ∙ ap (λ (k : Kept S). rows_of k.placed) starts.committed;
+      next = is.next ∙ (let under = reserved in grind (arith, common_steps, under));
+      each = λ b there below. going_or_over b there (finite.get first.store.now.ended b.number) refl (nat_lt first.store.second b.ends) refl;
+    }
+
+    there : RunsOn valid public laws i first.world (scene_after first turns) (kept i turns)
+    there = follows valid public laws i narrow hosts turns first h first.world (first.world.site i) (sym (own_site i first.world)) goes
+        (both_stand valid public laws i (is_committed turns) first.store goes starts.committed (first.world.site i) stands)

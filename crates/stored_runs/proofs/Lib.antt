@@ -6,5 +6,11 @@ pub mod Names
 pub mod Users
 pub mod Calls
 pub mod Opened
+pub mod Bound
+pub mod Elsewhere
+pub mod Wider
 pub mod Histories
+pub mod Stages
+pub mod Responses
+pub mod Scenes
 pub mod Shown

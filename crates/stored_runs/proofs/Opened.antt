@@ -19,8 +19,7 @@ use Rattle.site_stored.specs.State.{HoldsSite, StoredState}
 use Rattle.authenticator.specs.Steps.{Keys}
 use Rattle.agreement.specs.World as world
 use Rattle.stored_runs.specs.History.{Begun, IsCommitted, IsKept, IsOpened, Kept}
-use Rattle.stored_runs.specs.Stored.{LeadsTo}
-use Rattle.stored_runs.proofs.Pieces.{Leads, after, happens, here}
+use Rattle.stored_runs.proofs.Pieces.{Leads, Reaches, after, happens, here}
 use Rattle.stored_runs.proofs.Standing.{IsGoing, IsOver, Stands}
 
 -- ---- numbers are skipped
@@ -76,7 +75,7 @@ module _ (valid : Validity) (public : Keys) (i : ℕ) where
         next = let up = far.next in let is = stands.next in omega arith;
         each = λ b there under. let old = among b there under in still b old.1 (stands.each b old.0 old.1);
       },
-      λ w at. subst (λ (x : site.SiteState). LeadsTo valid public w i x []) run.1 (run.2 w at),
+      λ w at. subst (λ (x : site.SiteState). Reaches valid public w i x []) run.1 (run.2 w at),
     ) where
       d : ℕ
       d = more - next

@@ -1,5 +1,5 @@
 -- Texts that were handed out: each is that of one session, whose number is its own.
-use Rattle.std.proofs.Common.{◌≡◌, ◌<◌, ◌≤◌, ◌+◌, ◌-◌, ◌^◌, ◌↔◌, length, inl, inr, ℕ, zero, suc, Bool, true, false, List, [], ◌∷◌, ◌++◌, filter, refl, sym, ap, ◌∙◌, subst, arith, cond}
+use Rattle.std.proofs.Common.{◌≡◌, ◌<◌, ◌≤◌, ◌+◌, ◌^◌, ◌↔◌, length, inl, inr, ℕ, zero, suc, Bool, true, false, List, [], ◌∷◌, ◌++◌, filter, refl, sym, ap, ◌∙◌, subst, arith, cond}
 use Rattle.std.proofs.lemmas.Grind.{common_steps}
 use Rattle.std.proofs.lemmas.List.Elements.{Contains-append_cases}
 use Rattle.std.specs.Prelude.{Contains, IfSome, None, Option, Some, min, nat_lt}
@@ -24,7 +24,7 @@ use Rattle.site_stored.specs.Laws.{KeptLaws}
 use Rattle.site_stored.specs.Sessions.{IsOpen, ceremony_of, challenge_in, last_second, longest, until}
 use Rattle.site_stored.specs.State.{StoredState}
 use Rattle.agreement.specs.World.{words_of}
-use Rattle.stored_runs.specs.History.{Begun, Begins, MayBegin, begun_at, begun_by}
+use Rattle.stored_runs.specs.History.{AreBegun, Begun, Begins, IsSealed, MayBegin, begun_at, begun_by, session_in}
 
 -- ---- the laws that this one stands on
 
@@ -59,22 +59,6 @@ among {X} test (y ∷ ys) x there = go (among test ys x) (test y) refl
 pub only_one : {X : Type 0} (y x : X) → Contains (y ∷ []) x → y ≡ x
 only_one y x (zero, within, is) = is
 only_one y x (suc k, within, is) = absurd (omega (arith, within))
-
--- ---- what has begun
-
-abbrev pub session_in : List ℕ → Begun → Session
-session_in key b = record { ends = b.ends; ceremony = ceremony_of key (expected_of b.number b.opening) }
-
--- a text under this key and for this rp id
-pub record IsBegun (key rp_id : List ℕ) (b : Begun) : Type 0 where
-  pub text : b.text ≡ sealed_text key (sha256 rp_id) (session_in key b)
-  pub is : IsSession (session_in key b)
-
--- each is, and no two have one number
-pub record AreBegun (key rp_id : List ℕ) (next : ℕ) (bs : List Begun) : Type 0 where
-  pub each : (b : Begun) → Contains bs b → IsBegun key rp_id b
-  pub given : (b : Begun) → Contains bs b → b.number < next
-  pub own : (b c : Begun) → Contains bs b → Contains bs c → b.number ≡ c.number → b ≡ c
 
 -- ---- what may begin
 
@@ -116,7 +100,7 @@ numbered key n (OpensRegistration user algorithms uv words asks) = refl
 
 -- an open session by a text that was handed out is the one of that text
 pub own_session : {S : Type 0} (valid : Validity) (laws : Laws valid) (s : StoredState S) (ended : Endings) (now : ℕ) (text : List ℕ) (n : ℕ) (x : Session) (b : Begun)
-    → s.next < 2 ^ 63 → b.number < s.next → IsBegun s.key s.rp.rp_id b → b.text ≡ text → IsOpen s ended now text n x
+    → s.next < 2 ^ 63 → b.number < s.next → IsSealed s.key s.rp.rp_id b → b.text ≡ text → IsOpen s ended now text n x
     → (session_in s.key b ≡ x) × (b.number ≡ n)
 own_session valid laws s ended now text n x b below given begun same is =
     let mine : session_in s.key b ≡ x =
@@ -141,7 +125,7 @@ pub one_more : {S : Type 0} (s : StoredState S) (o : Opening) (now : ℕ) (bs : 
 one_more s o now bs may are = record {
   each = λ b there. elim (Contains-append_cases bs (begun_at s o now ∷ []) b there) [
     | inl old ↦ are.each b old
-    | inr last ↦ subst (λ (c : Begun). IsBegun s.key s.rp.rp_id c) (only_one (begun_at s o now) b last) (record { text = refl; is = fits s o now may })
+    | inr last ↦ subst (λ (c : Begun). IsSealed s.key s.rp.rp_id c) (only_one (begun_at s o now) b last) (record { text = refl; is = fits s o now may })
   ];
   given = λ b there. elim (Contains-append_cases bs (begun_at s o now ∷ []) b there) [
     | inl old ↦ let below = are.given b old in omega arith

@@ -1,21 +1,23 @@
 -- What a site over a store goes through: calls, commits, crashes and opens. Each call is said in the words of its contract
 -- (`site_stored`), of where it is done; one that is refused changes nothing, and is left out.
-use Rattle.std.specs.Prelude.{◌≡◌, ◌≤◌, ◌<◌, ◌+◌, ◌^◌, ℕ, Bool, true, false, List, [], ◌∷◌, ◌++◌, if◌then◌else◌, Some, Contains, filter, length, map, min, nat_lt, not}
+use Rattle.std.specs.Prelude.{◌≡◌, ◌≤◌, ◌<◌, ◌+◌, ◌^◌, ℕ, Bool, true, false, List, [], ◌∷◌, ◌++◌, Some, Contains, filter, length, map, min, nat_lt, not}
 use Rattle.std.specs.FinMap as finite
 use Rattle.std.specs.Str.{bytes_eq}
 use Rattle.sqlite_trees.specs.Tree.{Trees}
 use Rattle.base64.specs.GeneralPurpose.{IsBytes}
+use Rattle.sha2.specs.Sha256.{sha256}
 use Rattle.cose.specs.Schemes.{Validity}
 use Rattle.authdata.specs.declared.profile.Profile.{Profile}
 use Rattle.authdata.specs.Responses.{AuthenticatorAssertionResponse, AuthenticatorAttestationResponse}
 use Rattle.verification.specs.Records.{Credential}
 use Rattle.site_rows.specs.Endings.{Endings, HoldsEndings}
 use Rattle.site_rows.specs.Held.{IsAt, Placed, rows_of}
+use Rattle.site_rows.specs.declared.ending.Ending.{Ending}
 use Rattle.site_seal.specs.Judged.{TellsApart}
-use Rattle.site_seal.specs.Seal.{AreInOrder}
+use Rattle.site_seal.specs.Seal.{AreInOrder, IsSession, Session, sealed_text}
 use Rattle.site_state.specs.Sessions.{Expected, ForRegistration, ForSignIn, IsInput, Opening, OpensRegistration, OpensSignIn, expected_of}
 use Rattle.site_stored.specs.State.{IsHeld, StoredState, ended_session_tree}
-use Rattle.site_stored.specs.Sessions.{EndsSession, abandoned, accepted, begun_text, longest, until}
+use Rattle.site_stored.specs.Sessions.{EndsSession, abandoned, accepted, begun_text, ceremony_of, longest, until}
 use Rattle.site_stored.specs.Calls as calls
 use Rattle.site_stored.specs.Calls.{IsOneSite, TellsAllRetired, TellsDeleted, TellsErased, TellsRetired}
 use Rattle.site_stored.specs.declared.finish.SignedIn.{SignedIn}
@@ -126,6 +128,21 @@ abbrev pub begun_by : {S : Type 0} → StoredState S → Call → List Begun
 begun_by s (Begins o now) = begun_at s o now ∷ []
 begun_by s c = []
 
+-- what the text of a session holds
+abbrev pub session_in : List ℕ → Begun → Session
+session_in key b = record { ends = b.ends; ceremony = ceremony_of key (expected_of b.number b.opening) }
+
+-- a text is sealed under this key and for this rp id
+pub record IsSealed (key rp_id : List ℕ) (b : Begun) : Type 0 where
+  pub text : b.text ≡ sealed_text key (sha256 rp_id) (session_in key b)
+  pub is : IsSession (session_in key b)
+
+-- each is, its number was given, and no two have one number
+pub record AreBegun (key rp_id : List ℕ) (next : ℕ) (bs : List Begun) : Type 0 where
+  pub each : (b : Begun) → Contains bs b → IsSealed key rp_id b
+  pub given : (b : Begun) → Contains bs b → b.number < next
+  pub own : (b c : Begun) → Contains bs b → Contains bs c → b.number ≡ c.number → b ≡ c
+
 -- a text is that of one of these: nobody else makes one that opens under the site's key
 abbrev pub IsHanded : List Begun → List ℕ → Type 0
 IsHanded begun text = (b : Begun) × Contains begun b × (b.text ≡ text)
@@ -175,9 +192,14 @@ pub record Store (S : Type 0) : Type 0 where
   pub begun : List Begun
   pub second : ℕ
 
--- all of it is committed, and no text was handed out
-abbrev pub began : {S : Type 0} → Kept S → ℕ → Store S
-began start second = record { now = start; committed = start; begun = []; second = second }
+-- where a history may start: all is committed; and of the texts that were handed out before, which are the site's own, an ending is known until
+-- their time is over
+pub record MayStart {S : Type 0} (s : Store S) : Type 0 where
+  pub kept : IsKept s.now
+  pub committed : s.committed ≡ s.now
+  pub named : AreNamed s.now.placed
+  pub begun : AreBegun s.now.state.key s.now.state.rp.rp_id s.now.state.next s.begun
+  pub known : (b : Begun) (e : Ending) → Contains s.begun b → finite.get s.now.ended b.number ≡ Some e → b.ends ≤ e.until
 
 -- a call, at a second that is no earlier than that of the last one
 pub record IsCalled {S : Type 0} (valid : Validity) (old : Store S) (c : Call) (new : Store S) : Type 0 where
@@ -206,11 +228,6 @@ Takes valid old (Opens false) new = IsOpened old.committed new.now × IsWhole (h
 Takes {S} valid old (Opens true) new =
     ((mid : Kept S) × IsCommitted old.now mid × IsKept mid × IsOpened mid new.now) × IsWhole old.begun old new
 
--- one step after another
-abbrev pub IsHistory : {S : Type 0} → Validity → Store S → List Step → Store S → Type 0
-IsHistory valid old [] new = new ≡ old
-IsHistory {S} valid old (step ∷ steps) new = (next : Store S) × Takes valid old step next × IsKept next.now × IsHistory valid next steps new
-
 -- ---- what is kept of it
 
 -- what a call does to credentials
@@ -222,13 +239,3 @@ act_of (Erases user ids now) = map world.Deletes ids
 act_of (SignsIn n text r now) = world.SignsIn n r ∷ []
 act_of (Registers n text r now) = world.Registers n r ∷ []
 act_of c = []
-
--- what was done and committed, where this waits to be committed: only that is told. What a crash cut off is not among it
-abbrev pub acts_from : List world.SiteEvent → List Step → List world.SiteEvent
-acts_from waiting [] = []
-acts_from waiting (Calls c ∷ steps) = acts_from (waiting ++ act_of c) steps
-acts_from waiting (Commits ∷ steps) = waiting ++ acts_from [] steps
-acts_from waiting (Opens finds_all ∷ steps) = (if finds_all then waiting else []) ++ acts_from [] steps
-
-abbrev pub kept_acts : List Step → List world.SiteEvent
-kept_acts steps = acts_from [] steps

@@ -1,0 +1,86 @@
+//! The calls of a site over a store, as calls of a history: whatever its trees hold before a call that is done, they hold after it what
+//! the history's call makes of that, where the disk gives back what was written. Each function makes the call, and nothing else.
+
+ghost use Rattle.std.specs.Prelude.{◌≡◌, IfOk, true};
+ghost use Rattle.verification.specs.Views.{assertion_parts_view, registration_parts_view};
+ghost use Rattle.site_rows.specs.Endings.{Endings, HoldsEndings};
+ghost use Rattle.site_stored.specs.State.{ended_user_tree};
+ghost use Rattle.stored_runs.specs.Made.{Makes, nothing_valid};
+ghost use Rattle.stored_runs.specs.History.{Abandons, Deletes, Erases, Registers, Retires, RetiresAll, SignsIn};
+
+use cose::Verifier;
+use site_state::Detail;
+use site_stored::{Failure, FinishFailure, Registered, SessionFailure, SignedIn, StoredSite};
+use sqlite_trees::store::Store;
+use verification::{AssertionParts, RegistrationParts, RegistrationRefusal, SignInRefusal};
+
+/// Finishes a sign-in: in the session of the text, whose number is told.
+pub fn finish_parts<V: Verifier, S: Store>(
+    site: &mut StoredSite<S>,
+    verifier: &V,
+    text: &[u8],
+    response: &AssertionParts<'_>,
+    now: u64,
+) -> Result<SignedIn, FinishFailure<SignInRefusal>>
+    ensures { IfOk result (λ x. Makes S.Store.view (V.valid verifier.now) site.old (λ n. SignsIn n text.now (assertion_parts_view response.now) now) site.new) }
+{
+    site.finish_parts(verifier, text, response, now)
+}
+
+/// Finishes a registration: in the session of the text, whose number is told.
+pub fn finish_registration_parts<V: Verifier, S: Store>(
+    site: &mut StoredSite<S>,
+    verifier: &V,
+    text: &[u8],
+    response: &RegistrationParts<'_>,
+    detail: Detail,
+    now: u64,
+) -> Result<Registered, FinishFailure<RegistrationRefusal>>
+    ensures { IfOk result (λ x. (users : Endings) → HoldsEndings ended_user_tree users (S.Store.view site.old.store).trees
+        → Makes S.Store.view (V.valid verifier.now) site.old (λ n. Registers n text.now (registration_parts_view response.now) now) site.new) }
+{
+    site.finish_registration_parts(verifier, text, response, detail, now)
+}
+
+/// Abandons the session of a text, where it is open.
+pub fn abandon<S: Store>(
+    site: &mut StoredSite<S>,
+    text: &[u8],
+    now: u64,
+) -> Result<bool, SessionFailure>
+    ensures { IfOk result (λ was. was ≡ true → Makes {A = Unit {0}} S.Store.view nothing_valid site.old (λ u. Abandons text.now now) site.new) }
+{
+    site.abandon(text, now)
+}
+
+/// Retires a credential.
+pub fn retire<S: Store>(site: &mut StoredSite<S>, id: &[u8], now: u64) -> Result<bool, Failure>
+    ensures { IfOk result (λ was. Makes {A = Unit {0}} S.Store.view nothing_valid site.old (λ u. Retires id.now was now) site.new) }
+{
+    site.retire(id, now)
+}
+
+/// Deletes a credential.
+pub fn delete<S: Store>(site: &mut StoredSite<S>, id: &[u8], now: u64) -> Result<bool, Failure>
+    ensures { IfOk result (λ was. Makes {A = Unit {0}} S.Store.view nothing_valid site.old (λ u. Deletes id.now was now) site.new) }
+{
+    site.delete(id, now)
+}
+
+/// Retires all credentials of a user, whose ids are told.
+pub fn retire_all<S: Store>(
+    site: &mut StoredSite<S>,
+    user: &[u8],
+    now: u64,
+) -> Result<usize, Failure>
+    ensures { IfOk result (λ told. Makes S.Store.view nothing_valid site.old (λ ids. RetiresAll user.now ids now) site.new) }
+{
+    site.retire_all(user, now)
+}
+
+/// Deletes all credentials of a user, whose ids are told.
+pub fn erase<S: Store>(site: &mut StoredSite<S>, user: &[u8], now: u64) -> Result<usize, Failure>
+    ensures { IfOk result (λ told. Makes S.Store.view nothing_valid site.old (λ ids. Erases user.now ids now) site.new) }
+{
+    site.erase(user, now)
+}
