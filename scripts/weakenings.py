@@ -215,19 +215,24 @@ WEAKENINGS = [
         (HONEST, "  pub idle : IsIdleOn x.registering.channel x.registering.before\n", "  pub never : ⊥\n  pub idle : IsIdleOn x.registering.channel x.registering.before\n")]),
     ("ideal_never", "signatures are always forged", [
         ("agreement/specs/Agreement.antt", "→ WasMade m.old row.key → WasSigned m.old row.key (message_of r)\n", "→ WasMade m.old row.key → ⊥\n"),
-        (ACCEPTED, "let found = ideal i n r row acc.tries (a.passes.1.1.1.1.1.1.1.1.1.1.1.1.1.1.1.0 row acc.tries.found) made in",
-            "let found : WasSigned m.old row.key (message_of r) =\n      absurd (ideal i n r row acc.tries (a.passes.1.1.1.1.1.1.1.1.1.1.1.1.1.1.1.0 row acc.tries.found) made) in"),
-        (ACCEPTED, "ShareNone, message_of, session_in}", "ShareNone, WasSigned, message_of, session_in}")]),
+        (ACCEPTED, "(ideal i n r row acc.tries (signature_valid m l i n r row acc) made)\n", "(absurd (ideal i n r row acc.tries (signature_valid m l i n r row acc) made))\n")]),
     ("no_restarts", "no site restarts", [
         (WORLD, "pub record Loads (s t : site.SiteState) : Type 0 where\n", "pub record Loads (s t : site.SiteState) : Type 0 where\n  pub never : ⊥\n")]),
     ("no_reloads", "no authenticator loads what it saved", [
         (WORLD, "Restarted (old.holder k).state state × ChangesHolder old new k (after_restart (old.holder k) state)\n",
             "Restarted (old.holder k).state state × ChangesHolder old new k (after_restart (old.holder k) state) × ⊥\n")]),
     ("no_reopens", "no site is opened again", [
-        (WORLD, "SiteActs valid s Reopens t = t ≡ reopened t.sessions.max_open s\n", "SiteActs valid s Reopens t = (t ≡ reopened t.sessions.max_open s) × ⊥\n"),
-        (SITES, "stays s t Reopens fresh acts = whole s t Reopens (rebounded s t t.sessions.max_open fresh acts)\n", "stays s t Reopens fresh acts = absurd acts.1\n"),
-        (SITES, "absent s t Reopens acts id none apart = ap (λ (z : SiteState). row_of id z.rows) acts ∙ none\n", "absent s t Reopens acts id none apart = absurd acts.1\n"),
-        (BEGAN, "was_open s t Reopens n x acts h = inl (subst (λ (z : SiteState). finite.get z.sessions.expected n ≡ Some x) acts h)\n", "was_open s t Reopens n x acts h = absurd acts.1\n")]),
+        (WORLD, "pub record IsReopened (s t : site.SiteState) : Type 0 where\n", "pub record IsReopened (s t : site.SiteState) : Type 0 where\n  pub never : ⊥\n")]),
+    ("reopens_alike", "a site is opened again with the same pages and profile alone", [
+        (WORLD, "pub record IsReopened (s t : site.SiteState) : Type 0 where\n", "pub record IsReopened (s t : site.SiteState) : Type 0 where\n  pub alike : t.rp ≡ s.rp\n")]),
+    ("reopens_elsewhere", "a site is opened again for another rp id", [
+        (WORLD, "pub record IsReopened (s t : site.SiteState) : Type 0 where\n  pub rp_id : t.rp.rp_id ≡ s.rp.rp_id\n", "pub record IsReopened (s t : site.SiteState) : Type 0 where\n")]),
+    ("reopens_without_rows", "a site that is opened again may have other credentials", [
+        (WORLD, "  pub rows : t.rows ≡ s.rows\n  pub sessions : t.sessions ≡ record s.sessions", "  pub sessions : t.sessions ≡ record s.sessions")]),
+    ("reopens_with_sessions", "a site that is opened again may have other sessions", [
+        (WORLD, "  pub rows : t.rows ≡ s.rows\n  pub sessions : t.sessions ≡ record s.sessions { max_open = t.sessions.max_open }\n", "  pub rows : t.rows ≡ s.rows\n")]),
+    ("loads_alike", "a site restarts with the same pages and profile alone", [
+        (WORLD, "  pub rp_id : t.rp.rp_id ≡ s.rp.rp_id\n  pub none_open", "  pub rp_id : t.rp ≡ s.rp\n  pub none_open")]),
     ("no_expires", "no session expires", [
         (WORLD, "pub record EndsSessions (s t : site.SiteState) : Type 0 where\n", "pub record EndsSessions (s t : site.SiteState) : Type 0 where\n  pub never : ⊥\n")]),
     ("no_retires", "no credential is retired", [
@@ -289,8 +294,8 @@ WEAKENINGS = [
         (WORLD, "  pub left : (n : ℕ) → (finite.get t.sessions.expected n ≡ None) ⊎ (finite.get t.sessions.expected n ≡ finite.get s.sessions.expected n)\n",
             "  pub left : (n : ℕ) → Unit {0}\n")]),
     ("bound_forgets", "a bound that is set lets the numbers begin again", [
-        (WORLD, "reopened max_open s = record s { sessions = record s.sessions { max_open = max_open } }\n",
-            "reopened max_open s = record s { sessions = record s.sessions { next = 1; max_open = max_open } }\n")]),
+        (WORLD, "with_bound max_open s = record s { sessions = record s.sessions { max_open = max_open } }\n",
+            "with_bound max_open s = record s { sessions = record s.sessions { next = 1; max_open = max_open } }\n")]),
     # Level 3: frames, conditional creation, statements that were not asked for
     ("frame_unnamed", "a sign-in in another site's frame, though the site names no page",
         step("CrossOrigin", "ForSome (seen_of x.response.client_data) (MayBeFramed x.rp)", "h.says.1.1.1.1.0")),

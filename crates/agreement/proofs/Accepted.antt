@@ -30,8 +30,9 @@ use Rattle.authenticator.specs.Steps.{Entry, Keys, assertion}
 use Rattle.agreement.specs.World.{Abandons, Asks, AtSite, Begins, Bounds, Deletes, Done, Event, EventEffect, EventEnd, Expires, Happens}
 use Rattle.agreement.specs.World.{Moment, Registers, RegistersBy, Reloads, Reopens, Restarts, Retires, SignsIn, SignsInBy, SiteEvent, World}
 use Rattle.agreement.specs.Agreement.{Agrees, AnswersSession, Brings, BringsTo, DifferInSession, Fits, IsAccepted, IsDeleted, IsFresh, IsIdeal, IsKnown, RestsOnce}
-use Rattle.agreement.specs.Agreement.{ShareNone, message_of, session_in}
+use Rattle.agreement.specs.Agreement.{Consented, RestsOn, Says, ShareNone, WasSigned, message_of, session_in}
 use Rattle.agreement.specs.Below.{Below}
+use Rattle.agreement.specs.Forgeries.{IsBacked, ShowsForgery}
 use Rattle.agreement.proofs.Sites.{SignedIn, signs_in, takes}
 use Rattle.agreement.proofs.Spans.{Spans}
 use Rattle.agreement.proofs.Worlds.{Lived, Since}
@@ -176,10 +177,11 @@ module _ (valid : Validity) (public : Keys) (b : Below valid public) where
   sound_at : (m : Moment) (k : ℕ) (e : Entry) → Lived valid public b m → Contains (m.old.holder k).signed e → IsSound e
   sound_at m k e l there = All-contains IsSound (m.old.holder k).signed e (l.sound.holders k).signed there
 
-  pub agrees : (m : Moment) → Lived valid public b m → IsIdeal valid m → Agrees m
-  agrees m l ideal i n r row acc made =
+  -- where the message was signed by one that made the key
+  pub agrees_if_signed : (m : Moment) → Lived valid public b m → (i n : ℕ) (r : AuthenticatorAssertionResponse) (row : Credential) → IsAccepted m i n r row
+      → WasSigned m.old row.key (message_of r) → ((e : Entry) × RestsOn m r row e) × ((e : Entry) → RestsOn m r row e → Says m i n r e × Consented m i n e)
+  agrees_if_signed m l i n r row acc found =
       let a = accepted m i n r row l acc in
-      let found = ideal i n r row acc.tries (a.passes.1.1.1.1.1.1.1.1.1.1.1.1.1.1.1.0 row acc.tries.found) made in
       let matched = matches (m.old.site i).rp.profile a.auth r found.entry a.spelled a.bare found.of (sound_at m found.holder found.entry l found.there) in (
         (found.entry, record { there = (found.holder, found.there); purpose = matched.purpose; key = found.under; message = found.of }),
         λ e rests.
@@ -202,6 +204,29 @@ module _ (valid : Validity) (public : Keys) (b : Below valid public) where
               },
             ),
       )
+
+  signature_valid : (m : Moment) → Lived valid public b m → (i n : ℕ) (r : AuthenticatorAssertionResponse) (row : Credential) → IsAccepted m i n r row
+      → valid row.key (message_of r) r.signature
+  signature_valid m l i n r row acc = (accepted m i n r row l acc).passes.1.1.1.1.1.1.1.1.1.1.1.1.1.1.1.0 row acc.tries.found
+
+  pub agrees : (m : Moment) → Lived valid public b m → IsIdeal valid m → Agrees m
+  agrees m l ideal i n r row acc made = agrees_if_signed m l i n r row acc (ideal i n r row acc.tries (signature_valid m l i n r row acc) made)
+
+  pub shows_forgery : (m : Moment) → Lived valid public b m → ShowsForgery valid m
+  shows_forgery m l =
+      let backed : (i n : ℕ) (r : AuthenticatorAssertionResponse) (row : Credential) → IsAccepted m i n r row → WasSigned m.old row.key (message_of r)
+      → IsBacked m i n r row = λ i n r row acc signed.
+      let x = agrees_if_signed m l i n r row acc signed in
+      let says = x.1 x.0.0 x.0.1 in
+      (x.0.0, x.0.1, says.0, says.1) in
+      record {
+        backed = backed;
+        shows = λ i n r row acc made not_backed. record {
+          made = made;
+          is_valid = signature_valid m l i n r row acc;
+          unsigned = λ signed. not_backed (backed i n r row acc signed);
+        };
+      }
 
   pub share_none : (m : Moment) (between : List Moment) (l : Moment) → Lived valid public b m → Spans valid public b between m.new l → ShareNone m between l
   share_none m between l lm s i n k r t row low am al same kept e rm rl =

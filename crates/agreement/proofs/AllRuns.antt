@@ -6,8 +6,9 @@ use Rattle.authenticator.proofs.Stored.{each_weaker}
 use Rattle.agreement.specs.Agreement.{Agrees, Deleting, DifferInSession, Fits, IsIdeal, IsKnown, OfAllRuns, Registered, RestsOnce, Retiring, ShareNone}
 use Rattle.agreement.specs.Agreement.{StaysDeleted, StaysRetired}
 use Rattle.agreement.specs.Below.{Below}
+use Rattle.agreement.specs.Forgeries.{ForgeriesOfAllRuns, ShowsForgery}
 use Rattle.agreement.proofs.Worlds.{Since, at_start, pairs, since, starts}
-use Rattle.agreement.proofs.Accepted.{agrees, differ, fits, known, rests_once, share_none}
+use Rattle.agreement.proofs.Accepted.{agrees, differ, fits, known, rests_once, share_none, shows_forgery}
 use Rattle.agreement.proofs.Deleted.{deleting, stays_deleted}
 use Rattle.agreement.proofs.Registered.{fits_registration}
 use Rattle.agreement.proofs.Retired.{retiring, stays_retired}
@@ -41,3 +42,9 @@ of_all_runs valid public b w run start is =
           (since valid public b w w run sound (at_start valid public b w) is));
       deleted = spans valid public b StaysDeleted (stays_deleted valid public b) w run sound is;
     }
+
+pub forgeries_of_all_runs : (valid : Validity) (public : Keys) → Below valid public → ForgeriesOfAllRuns valid public
+forgeries_of_all_runs valid public b w run start is =
+    All-from_recursion (ShowsForgery valid) run
+    (each_weaker (Since valid public b w) (ShowsForgery valid) (λ m s. shows_forgery valid public b m s.lived) run
+    (since valid public b w w run (starts valid public b w start) (at_start valid public b w) is))

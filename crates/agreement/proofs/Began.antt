@@ -7,7 +7,7 @@ use Rattle.std.proofs.lemmas.Grind.{common_steps}
 use Rattle.std.proofs.lemmas.Bool.Decides.{eqb_tells}
 use Rattle.cose.specs.Schemes.{Validity}
 use Rattle.authdata.specs.Responses as responses
-use Rattle.site_state.specs.Sessions.{Expected, Opening, OpensRegistration, OpensSignIn, expected_of}
+use Rattle.site_state.specs.Sessions.{Expected, OpenSessions, Opening, OpensRegistration, OpensSignIn, expected_of}
 use Rattle.site.specs.State.{SiteState}
 use Rattle.site.proofs.Goings.{begun_or, still}
 use Rattle.authenticator.specs.Steps.{Keys}
@@ -85,7 +85,7 @@ module _ (valid : Validity) (public : Keys) (b : Below valid public) where
   was_open s t Restarts n x acts h =
       let empty : finite.get t.sessions.expected n ≡ None = rw acts.none_open (grind (arith, gets, common_steps)) in
       let bad : None ≡ Some x = sym empty ∙ h in absurd cc
-  was_open s t Reopens n x acts h = inl (subst (λ (z : SiteState). finite.get z.sessions.expected n ≡ Some x) acts h)
+  was_open s t Reopens n x acts h = inl (subst (λ (z : OpenSessions). finite.get z.expected n ≡ Some x) acts.sessions h)
 
   -- ---- a moment, and a run
 

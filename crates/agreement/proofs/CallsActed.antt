@@ -18,13 +18,12 @@ calls_act valid public = record {
   registers = λ s t n r passes after. (passes_with_room valid (judged_registration s n r) passes, after);
   signs_in_by = λ s t n c used ps d r succeeds after. ((used, r, succeeds), after);
   registers_by = λ s t n c used ps d r succeeds after. (succeeds_with_room valid s n c used ps d r succeeds, after);
-  restarts = λ s t bytes saved loaded. record {
+  restarts = λ s t rp policy bytes same saved loaded. record {
     bytes = bytes;
     saved = saved;
     version = loaded.0.0;
     loaded = loaded.0.1;
-    rp = ap (λ (x : SiteState). x.rp) loaded.1;
-    policy = ap (λ (x : SiteState). x.policy) loaded.1;
+    rp_id = ap (λ (x : SiteState). x.rp.rp_id) loaded.1 ∙ same;
     none_open =
         let e : t.sessions ≡ none_open 1024 t.sessions.next = ap (λ (x : SiteState). x.sessions) loaded.1 in
         let m : t.sessions.max_open ≡ 1024 = ap (λ (x : OpenSessions). x.max_open) e in
@@ -32,12 +31,7 @@ calls_act valid public = record {
   };
   expires = λ s expected left. record { left = left; same = refl };
   bounds = λ s n. refl;
-  restores = λ s fresh n rp policy. λ i. record {
-    rp = rp i;
-    policy = policy i;
-    rows = s.rows;
-    sessions = record s.sessions { max_open = n };
-  };
+  restores = λ s fresh n same. record { rp_id = same; rows = refl; sessions = refl };
   asks = λ w k c bs consent words out size step. (out, size, step, changes_holder k (after_call (w.holder k) out) (after_call (w.holder k) out) w refl);
   reloads = λ w k bytes state saved loaded. (
     state,

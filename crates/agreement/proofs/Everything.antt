@@ -26,7 +26,7 @@ use Rattle.client.specs.Responses.{response_of}
 use Rattle.agreement.specs.Ends.{AuthenticatorEnd}
 use Rattle.agreement.specs.Honest.{AcceptsBoth, IsHonestRun, Run}
 use Rattle.agreement.specs.World.{Abandons, Asks, AtSite, Begins, Bounds, Deletes, Done, Event, EventEffect, Expires, Holder, IsRun, Moment, Registers, RegistersBy, Reloads}
-use Rattle.agreement.specs.World.{Reopens, Restarts, Retires, SignsIn, SignsInBy, SiteActs, SiteEvent, World, after_delete, reopened}
+use Rattle.agreement.specs.World.{Reopens, Restarts, Retires, SignsIn, SignsInBy, SiteActs, SiteEvent, World, after_delete, with_bound}
 use Rattle.agreement.specs.Agreement.{Brings, IsIdeal, WasSigned, message_of}
 use Rattle.agreement.specs.Lived as live
 use Rattle.agreement.specs.Lived.{Place, TakesPlace, with_holder, with_site}
@@ -196,7 +196,7 @@ module _ (valid : Validity) (public : Keys) (b : Below valid public) (keeps : Ke
 
   -- the site after the sign-in, with room for one session more
   abbrev bounded : site.SiteState
-  bounded = reopened (suc p.signed_in.sessions.max_open) p.signed_in
+  bounded = with_bound (suc p.signed_in.sessions.max_open) p.signed_in
 
   registered_there : (r : registered_row.Credential) × (row_of response.credential bounded.rows ≡ Some r) × (r.retired ≡ false)
   registered_there =
@@ -349,7 +349,7 @@ module _ (valid : Validity) (public : Keys) (b : Below valid public) (keeps : Ke
                           changed 1 (Bounds (suc p.signed_in.sessions.max_open)) p.signed_in bounded m10.new refl refl,
                           (
                             refl,
-                            changed 1 Reopens bounded bounded m11.new refl refl,
+                            changed 1 Reopens bounded bounded m11.new refl (record { rp_id = refl; rows = refl; sessions = refl }),
                             (
                               refl,
                               changed 1 (Retires response.credential) bounded retired_there m12.new refl refl,
@@ -363,8 +363,7 @@ module _ (valid : Validity) (public : Keys) (b : Below valid public) (keeps : Ke
                                     saved = restarts.1;
                                     version = version_of first.rows;
                                     loaded = restarts.1;
-                                    rp = refl;
-                                    policy = refl;
+                                    rp_id = refl;
                                     none_open = none_open_first;
                                   }),
                                   (refl, (new_holder.state, record { bytes = reloads.0; saved = reloads.1; loaded = reloads.2 }, changes_holder 2 new_holder new_holder m15.new refl), (refl, begins_at 0 m16.new refl, (refl, makes 0 m17.new refl, (refl, changed 0 registers_by x.registering.site x.registered m18.new refl by_packets, (refl, begins_again_at 0 m19.new refl, (refl, asserts 0 m20.new refl, (refl, changed 0 signs_in_by x.signing_in.site p.signed_in m21.new refl signs_by_packets, tt))))))),

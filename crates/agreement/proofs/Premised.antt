@@ -1,9 +1,9 @@
 -- What meets the premises of the laws.
-use Rattle.std.proofs.Common.{◌≡◌, ℕ, List, [], ◌∷◌, Bool, Some, refl, ap, subst, sym, inl, inr}
+use Rattle.std.proofs.Common.{◌≡◌, ◌≢◌, ◌∙◌, ℕ, List, [], ◌∷◌, ◌++◌, Bool, true, false, Some, refl, ap, subst, sym, inl, inr, arith}
 use Rattle.std.specs.Prelude.{Contains}
 use Rattle.std.specs.FinMap as finite
 use Rattle.std.specs.List.{All}
-use Rattle.std.proofs.lemmas.List.Elements.{All-weaker}
+use Rattle.std.proofs.lemmas.List.Elements.{All-weaker, Contains-append_right}
 use Rattle.hidframe.specs.declared.Packet.{Packet}
 use Rattle.cose.specs.Schemes.{Validity}
 use Rattle.authdata.specs.Responses as responses
@@ -19,8 +19,20 @@ use Rattle.client.specs.Responses.{response_of}
 use Rattle.ceremony.specs.Registration as registering
 use Rattle.ceremony.specs.Verdict.{Delivers}
 use Rattle.agreement.specs.Agreement.{Brings, IsAccepted, IsAcceptedRegistration, IsDeleted, IsIdeal, NoneDeleted, Tries, message_of}
-use Rattle.agreement.specs.Premises.{HonestPremises, Premises, RunPremises}
-use Rattle.agreement.specs.World.{AtSite, Deletes, Done, Event, Happens, Holder, IsStart, Moment, Nothing, Registers, RegistersBy, SignsIn, SignsInBy, World}
+use Rattle.agreement.specs.Premises.{HonestPremises, PagePremises, Premises, RunPremises, SessionPremises}
+use Rattle.agreement.specs.Stays.{IsEnd}
+use Rattle.agreement.specs.World as world
+use Rattle.agreement.specs.World.{AtSite, Deletes, Done, Event, Happens, Holder, IsStart, Moment, Nothing, Registers, RegistersBy, SignsIn, SignsInBy, SiteEvent, World}
+
+abbrev site_of : Event → ℕ
+site_of (AtSite i e) = i
+site_of (world.Asks k channel bs consent words) = 0
+site_of (world.Reloads k) = 0
+
+abbrev is_at_site : Event → Bool
+is_at_site (AtSite i e) = true
+is_at_site (world.Asks k channel bs consent words) = false
+is_at_site (world.Reloads k) = false
 
 -- a new authenticator, by what it is
 new_start : (w : World) → ((i : ℕ) → (w.site i).sessions.expected ≡ finite.empty)
@@ -150,5 +162,40 @@ honest_premises valid public = record {
       };
 }
 
+-- ---- of sessions that stay, and of pages
+
+module _ (i n : ℕ) (m : Moment) (is : IsEnd i n m) where
+  at_no_other : (j : ℕ) (e : SiteEvent) → m.event ≡ AtSite j e → j ≢ i → ⊥
+  at_no_other j e event apart = let same : AtSite j e ≡ AtSite i is.0 = sym event ∙ is.1 in apart (ap site_of same)
+
+  at_a_site : (e : Event) → m.event ≡ e → is_at_site e ≡ true
+  at_a_site e event = ap is_at_site (sym event ∙ is.1)
+
+session_premises : SessionPremises
+session_premises = record {
+  begins = λ o n h. h;
+  retires = λ id n h. h;
+  deletes = λ id n h. h;
+  bounds = λ k n h. h;
+  reopens = λ n h. h;
+  abandons = λ k n apart h. apart h;
+  signs_in = λ k n r apart h. apart h;
+  signs_in_by = λ k n c ps t apart h. apart h;
+  registers = λ k n r apart h. apart h;
+  registers_by = λ k n c ps t apart h. apart h;
+  refused = λ i n m nothing is. let bad : Nothing ≡ Done = sym nothing ∙ is.2 in absurd cc;
+  other_site = λ i j n m e event apart is. at_no_other i n m is j e event apart;
+  asks = λ i n k channel bs consent words m event is. let bad : false ≡ true = at_a_site i n m is (world.Asks k channel bs consent words) event in absurd cc;
+  reloads = λ i n k m event is. let bad : false ≡ true = at_a_site i n m is (world.Reloads k) event in absurd cc;
+}
+
+page_premises : PagePremises
+page_premises = record {
+  from_page = λ page t seen reads is.
+      record { client_data = t; hashed = refl; seen = seen; reads = reads; page = subst (λ (p : List ℕ). Contains (p ∷ []) seen.origin) is (0, omega arith, refl) };
+  asked = λ pages k moments each before m later here channel consent words q asked.
+      each m channel asked.bytes consent words q (subst (λ (ms : List Moment). Contains ms m) (sym here) (Contains-append_right before (m ∷ later) m (0, omega arith, refl))) asked.event asked.done asked.request;
+}
+
 pub premises : (valid : Validity) (public : Keys) → Premises valid public
-premises valid public = record { of_runs = run_premises valid public; of_an_honest_run = honest_premises valid public }
+premises valid public = record { of_runs = run_premises valid public; of_sessions = session_premises; of_pages = page_premises; of_an_honest_run = honest_premises valid public }

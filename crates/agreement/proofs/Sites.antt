@@ -34,8 +34,8 @@ use Rattle.ceremony.specs.Verdict.{CarriesReply, Delivers, Succeeds}
 use Rattle.ceremony.proofs.OneVerdict.{registration_one, sign_in_one}
 use Rattle.authenticator.specs.Steps.{Keys}
 use Rattle.authenticator.proofs.Stored.{each_weaker}
-use Rattle.agreement.specs.World.{Abandons, SiteActs, Begins, Bounds, Deletes, EndsSessions, Expires, Loads, Registers, RegistersBy, Reopens, Restarts}
-use Rattle.agreement.specs.World.{Retires, SignsIn, SignsInBy, SiteEvent, after_delete, reopened, with_room, words_of}
+use Rattle.agreement.specs.World.{Abandons, SiteActs, Begins, Bounds, Deletes, EndsSessions, Expires, IsReopened, Loads, Registers, RegistersBy, Reopens}
+use Rattle.agreement.specs.World.{Restarts, Retires, SignsIn, SignsInBy, SiteEvent, after_delete, with_bound, with_room, words_of}
 use Rattle.agreement.specs.Agreement.{BringsNewTo, BringsTo, Carried, CarriedNew, IsRegistration, session_in}
 use Rattle.agreement.specs.Below.{Below}
 use Rattle.agreement.proofs.Rows.{none_last, none_with, none_without, others_left}
@@ -205,14 +205,22 @@ module _ (valid : Validity) (public : Keys) (b : Below valid public) where
 
   -- ---- what is kept
 
-  loaded : (s t : SiteState) → Loads s t → t ≡ after_restart t.sessions.max_open s
+  -- a site in which this one is opened, of another relying party and policy
+  abbrev opened_as : SiteState → SiteState → SiteState
+  opened_as t s = record s { rp = t.rp; policy = t.policy }
+
+  loaded : (s t : SiteState) → Loads s t → t ≡ opened_as t (after_restart t.sessions.max_open s)
   loaded s t l =
       let same = b.sites.one_saved s t (version_of s.rows) l.version l.bytes l.saved l.loaded in
-      let rp = l.rp in
-      let policy = l.policy in
       let rows = same.0 in
       let sessions : t.sessions ≡ none_open t.sessions.max_open s.sessions.next = l.none_open ∙ ap (none_open t.sessions.max_open) same.1 in
-      λ i. record { rp = rp i; policy = policy i; rows = rows i; sessions = sessions i }
+      λ i. record { rp = t.rp; policy = t.policy; rows = rows i; sessions = sessions i }
+
+  reopened : (s t : SiteState) → IsReopened s t → t ≡ opened_as t (with_bound t.sessions.max_open s)
+  reopened s t x =
+      let rows = x.rows in
+      let sessions = x.sessions in
+      λ i. record { rp = t.rp; policy = t.policy; rows = rows i; sessions = sessions i }
 
   record Whole (s t : SiteState) : Type 0 where
     pub keeps : Keeps s t
@@ -234,6 +242,12 @@ module _ (valid : Validity) (public : Keys) (b : Below valid public) where
     rows = λ id row apart found. x.keeps.goes_on.rows id row found;
     bytes = x.bytes;
   }
+
+  -- pages, profile and policy do not matter to what stays
+  stays_opened : (s t u : SiteState) (e : SiteEvent) → Stays s u e → t ≡ opened_as t u → Stays s t e
+  stays_opened s t u e x is =
+      subst (λ (z : SiteState). Stays s z e) (sym is)
+      (record { numbered = x.numbered; fresh = x.fresh; gone = x.gone; rows = x.rows; bytes = x.bytes })
 
   stays_signed_in : (s t : SiteState) (n : ℕ) (r : responses.AuthenticatorAssertionResponse) → IsFresh s → SignedIn s n r t → Whole s t
   stays_signed_in s t n r fresh x = record {
@@ -296,12 +310,11 @@ module _ (valid : Validity) (public : Keys) (b : Below valid public) where
         bytes = λ old n e h. old n e (left_open s t n e ends h);
       }
 
-  rebounded : (s t : SiteState) (max_open : ℕ) → IsFresh s → t ≡ reopened max_open s → Whole s t
-  rebounded s t max_open fresh is =
+  rebounded : (s : SiteState) (max_open : ℕ) → IsFresh s → Whole s (with_bound max_open s)
+  rebounded s max_open fresh =
       let onward = b.sites.stays s in
-      let goes_on : GoesOn s (reopened max_open s) = record { rows = onward.rows; gone = onward.gone; rp = onward.rp } in
-      let same : Keeps s (reopened max_open s) = record { numbered = λ h. h; fresh = fresh; goes_on = goes_on } in
-      subst (Whole s) (sym is) (record { keeps = same; bytes = λ old. old })
+      let goes_on : GoesOn s (with_bound max_open s) = record { rows = onward.rows; gone = onward.gone; rp = onward.rp } in
+      record { keeps = record { numbered = λ h. h; fresh = fresh; goes_on = goes_on }; bytes = λ old. old }
 
   deleted : (s t : SiteState) (id : List ℕ) → IsFresh s → t ≡ after_delete s id → Stays s t (Deletes id)
   deleted s t id fresh is =
@@ -334,14 +347,14 @@ module _ (valid : Validity) (public : Keys) (b : Below valid public) where
       let x = registered_by s t n c ps d acts in
       whole s t (RegistersBy n c ps d) (stays_registered s t n x.0 fresh x.1)
   stays s t Expires fresh acts = whole s t Expires (ended s t fresh acts)
-  stays s t (Bounds max_open) fresh acts = whole s t (Bounds max_open) (rebounded s t max_open fresh acts)
+  stays s t (Bounds max_open) fresh acts = whole s t (Bounds max_open) (subst (Whole s) (sym acts) (rebounded s max_open fresh))
   stays s t Restarts fresh acts =
-      let max_open = t.sessions.max_open in
-      whole s t Restarts (subst (Whole s) (sym (loaded s t acts)) (record {
-        keeps = b.sites.restarts max_open s fresh;
-        bytes = λ old. empty_bytes (after_restart max_open s) refl;
-      }))
-  stays s t Reopens fresh acts = whole s t Reopens (rebounded s t t.sessions.max_open fresh acts)
+      let after = after_restart t.sessions.max_open s in
+      let kept : Whole s after = record { keeps = b.sites.restarts t.sessions.max_open s fresh; bytes = λ old. empty_bytes after refl } in
+      stays_opened s t after Restarts (whole s after Restarts kept) (loaded s t acts)
+  stays s t Reopens fresh acts =
+      let after = with_bound t.sessions.max_open s in
+      stays_opened s t after Reopens (whole s after Reopens (rebounded s t.sessions.max_open fresh)) (reopened s t acts)
 
   -- ---- which session is taken
 
@@ -425,4 +438,4 @@ module _ (valid : Validity) (public : Keys) (b : Below valid public) where
   absent s t Expires acts id none apart = ap (λ (z : SiteState). row_of id z.rows) acts.same ∙ none
   absent s t (Bounds max_open) acts id none apart = ap (λ (z : SiteState). row_of id z.rows) acts ∙ none
   absent s t Restarts acts id none apart = ap (λ (z : SiteState). row_of id z.rows) (loaded s t acts) ∙ none
-  absent s t Reopens acts id none apart = ap (λ (z : SiteState). row_of id z.rows) acts ∙ none
+  absent s t Reopens acts id none apart = ap (row_of id) acts.rows ∙ none

@@ -15,7 +15,7 @@ use Rattle.authdata.specs.Responses as responses
 use Rattle.verification.specs.SignIn.{PassesSignIn}
 use Rattle.ctap_requests.specs.Requests.{RequestMessage, reset}
 use Rattle.ctap_requests.specs.Status.{Applies, IsRequest, Rank, ranks}
-use Rattle.site_state.specs.Sessions.{Expected, closed, for_sign_in}
+use Rattle.site_state.specs.Sessions.{Expected, OpenSessions, closed, for_sign_in}
 use Rattle.site_state.specs.Table.{row_of}
 use Rattle.site.specs.Laws.{IsFresh}
 use Rattle.site.specs.State.{SiteState, judged_sign_in}
@@ -63,24 +63,24 @@ module _ (valid : Validity) (public : Keys) (b : Below valid public) where
     stays_at Expires fresh acts none = absurd (none tt)
     stays_at (Bounds k) fresh acts none = subst OpenIn (sym acts) h
     stays_at Restarts fresh acts none = absurd (none tt)
-    stays_at Reopens fresh acts none = subst OpenIn (sym acts) h
+    stays_at Reopens fresh acts none = subst (λ (z : OpenSessions). finite.get z.expected n ≡ Some x) (sym acts.sessions) h
 
-  -- the relying party is as it was
-  same_party : (s t : SiteState) (e : SiteEvent) → SiteActs valid s e t → t.rp ≡ s.rp
-  same_party s t (Begins o) acts = ap (λ (z : SiteState). z.rp) acts.2
-  same_party s t (Abandons k) acts = ap (λ (z : SiteState). z.rp) acts
-  same_party s t (Retires id) acts = ap (λ (z : SiteState). z.rp) acts
-  same_party s t (Deletes id) acts = ap (λ (z : SiteState). z.rp) acts
-  same_party s t (SignsIn k r) acts = ap (λ (z : SiteState). z.rp) acts.1.2
+  -- the rp id is as it was
+  same_party : (s t : SiteState) (e : SiteEvent) → SiteActs valid s e t → t.rp.rp_id ≡ s.rp.rp_id
+  same_party s t (Begins o) acts = ap (λ (z : SiteState). z.rp.rp_id) acts.2
+  same_party s t (Abandons k) acts = ap (λ (z : SiteState). z.rp.rp_id) acts
+  same_party s t (Retires id) acts = ap (λ (z : SiteState). z.rp.rp_id) acts
+  same_party s t (Deletes id) acts = ap (λ (z : SiteState). z.rp.rp_id) acts
+  same_party s t (SignsIn k r) acts = ap (λ (z : SiteState). z.rp.rp_id) acts.1.2
   same_party s t (SignsInBy k c ps d) acts =
       let there = carried_there valid public b s t k c ps d acts in
-      ap (λ (z : SiteState). z.rp) (signed_in_by valid public b s t k c ps d there.0 acts there.1).after.2
-  same_party s t (Registers k r) acts = ap (λ (z : SiteState). z.rp) acts.1.6
-  same_party s t (RegistersBy k c ps d) acts = ap (λ (z : SiteState). z.rp) (registered_by valid public b s t k c ps d acts).1.after.6
-  same_party s t Expires acts = ap (λ (z : SiteState). z.rp) acts.same
-  same_party s t (Bounds k) acts = ap (λ (z : SiteState). z.rp) acts
-  same_party s t Restarts acts = acts.rp
-  same_party s t Reopens acts = ap (λ (z : SiteState). z.rp) acts
+      ap (λ (z : SiteState). z.rp.rp_id) (signed_in_by valid public b s t k c ps d there.0 acts there.1).after.2
+  same_party s t (Registers k r) acts = ap (λ (z : SiteState). z.rp.rp_id) acts.1.6
+  same_party s t (RegistersBy k c ps d) acts = ap (λ (z : SiteState). z.rp.rp_id) (registered_by valid public b s t k c ps d acts).1.after.6
+  same_party s t Expires acts = ap (λ (z : SiteState). z.rp.rp_id) acts.same
+  same_party s t (Bounds k) acts = ap (λ (z : SiteState). z.rp.rp_id) acts
+  same_party s t Restarts acts = acts.rp_id
+  same_party s t Reopens acts = acts.rp_id
 
   -- ---- a moment
 
@@ -102,16 +102,16 @@ module _ (valid : Validity) (public : Keys) (b : Below valid public) where
   open_then m i n x (Asks k channel bs consent words) Done is ends h sound there none = same_open i n x m.old m.new (h.3.sites i) there
   open_then m i n x (Reloads k) Done is ends h sound there none = same_open i n x m.old m.new (h.2.sites i) there
 
-  party_then : (m : Moment) (i : ℕ) (event : Event) (end : EventEnd) → Happens valid public m.old event end m.new → (m.new.site i).rp ≡ (m.old.site i).rp
-  party_then m i event Nothing h = ap (λ (w : World). (w.site i).rp) h
+  party_then : (m : Moment) (i : ℕ) (event : Event) (end : EventEnd) → Happens valid public m.old event end m.new → (m.new.site i).rp.rp_id ≡ (m.old.site i).rp.rp_id
+  party_then m i event Nothing h = ap (λ (w : World). (w.site i).rp.rp_id) h
   party_then m i (AtSite j e) Done h = elim (eqb_tells i j) [
     | inl same ↦
-        ap (λ (l : ℕ). (m.new.site l).rp) same.1 ∙ ap (λ (z : SiteState). z.rp) h.2.now ∙ same_party (m.old.site j) h.0 e h.1
-        ∙ ap (λ (l : ℕ). (m.old.site l).rp) (sym same.1)
-    | inr other ↦ ap (λ (z : SiteState). z.rp) (h.2.others i other.1)
+        ap (λ (l : ℕ). (m.new.site l).rp.rp_id) same.1 ∙ ap (λ (z : SiteState). z.rp.rp_id) h.2.now ∙ same_party (m.old.site j) h.0 e h.1
+        ∙ ap (λ (l : ℕ). (m.old.site l).rp.rp_id) (sym same.1)
+    | inr other ↦ ap (λ (z : SiteState). z.rp.rp_id) (h.2.others i other.1)
   ]
-  party_then m i (Asks k channel bs consent words) Done h = ap (λ (z : SiteState). z.rp) (h.3.sites i)
-  party_then m i (Reloads k) Done h = ap (λ (z : SiteState). z.rp) (h.2.sites i)
+  party_then m i (Asks k channel bs consent words) Done h = ap (λ (z : SiteState). z.rp.rp_id) (h.3.sites i)
+  party_then m i (Reloads k) Done h = ap (λ (z : SiteState). z.rp.rp_id) (h.2.sites i)
 
   -- ---- a run
 
@@ -123,23 +123,23 @@ module _ (valid : Validity) (public : Keys) (b : Below valid public) where
       let here : IsOpen m.old i n x = subst (λ (v : World). IsOpen v i n x) (sym run.0) there in
       open_after m.new ms later i n x l.kept.sound run.2 (open_then m i n x m.event m.end refl refl run.1 l.sound here none.0) none.1
 
-  party_after : (w : World) (ms later : List Moment) (i : ℕ) → IsRun valid public w (ms ++ later) → ((world_after w ms).site i).rp ≡ (w.site i).rp
+  party_after : (w : World) (ms later : List Moment) (i : ℕ) → IsRun valid public w (ms ++ later) → ((world_after w ms).site i).rp.rp_id ≡ (w.site i).rp.rp_id
   party_after w [] later i run = refl
   party_after w (m ∷ ms) later i run =
-      party_after m.new ms later i run.2 ∙ party_then m i m.event m.end run.1 ∙ ap (λ (v : World). (v.site i).rp) run.0
+      party_after m.new ms later i run.2 ∙ party_then m i m.event m.end run.1 ∙ ap (λ (v : World). (v.site i).rp.rp_id) run.0
 
   over : (w : World) (past between later : List Moment) → Sound w → IsRun valid public w (past ++ (between ++ later)) → Stays valid w past between
   over w [] between later sound run = record {
     still_open = λ i n x there none. open_after w between later i n x sound run there (recursion_from_All (λ (m : Moment). IsEnd i n m → ⊥) between none);
-    accepted = λ i n x r there none row passes.
+    party = λ i. party_after w between later i run;
+    accepted = λ i n x r there none party row passes.
         let left = open_after w between later i n x sound run there (recursion_from_All (λ (m : Moment). IsEnd i n m → ⊥) between none) in
-        subst (PassesSignIn valid) (sym (b.sites.judged (w.site i) ((world_after w between).site i) n r (party_after w between later i run)
-        (ap for_sign_in (left ∙ sym there)) row)) passes;
+        subst (PassesSignIn valid) (sym (b.sites.judged (w.site i) ((world_after w between).site i) n r party (ap for_sign_in (left ∙ sym there)) row)) passes;
   }
   over w (m ∷ past) between later sound run =
       let l = lived valid public b w m sound run.0 run.1 in
       let rest = over m.new past between later l.kept.sound run.2 in
-      record { still_open = rest.still_open; accepted = rest.accepted }
+      record { still_open = rest.still_open; party = rest.party; accepted = rest.accepted }
 
   -- ---- a reset
 

@@ -22,6 +22,8 @@ use Rattle.authenticator.specs.Steps.{Keys, Outcome, Step}
 use Rattle.authenticator.specs.declared.consent.Consent.{Consent}
 use Rattle.authenticator.specs.declared.consent.Words.{Words}
 use Rattle.ceremony.specs.Verdict.{Succeeds}
+use Rattle.verification.specs.Records.{RelyingParty}
+use Rattle.verification.specs.declared.party.Policy.{Policy}
 use Rattle.ceremony.specs.SignIn as by_packets
 use Rattle.ceremony.specs.Registration as registering
 use Rattle.agreement.specs.World.{Abandons, Asks, Begins, Bounds, EventEffect, Expires, Registers, RegistersBy, Reloads, Reopens, Restarts, Retires, SignsIn, SignsInBy}
@@ -48,11 +50,11 @@ pub record CallsAct (valid : Validity) (public : Keys) : Type 0 where
       → SiteActs valid s Expires (record s { sessions = record s.sessions { expected = expected } })
   pub bounds : (s : site.SiteState) (max_open : ℕ)
       → SiteActs valid s (Bounds max_open) (record s { sessions = record s.sessions { max_open = max_open } })
-  -- what `load` gives of what `save` appended, with the same relying party and policy
-  pub restarts : (s t : site.SiteState) (bytes : List ℕ) → TableOf (version_of s.rows) (saved_of s) bytes → IsLoaded s.rp s.policy bytes t
-      → SiteActs valid s Restarts t
-  -- what `restore` makes of a new site of the same relying party and policy, with the table and the sessions that were stored
-  pub restores : (s fresh : site.SiteState) (max_open : ℕ) → fresh.rp ≡ s.rp → fresh.policy ≡ s.policy
+  -- what `load` gives of what `save` appended, for the same rp id, whatever else the relying party and the policy are
+  pub restarts : (s t : site.SiteState) (rp : RelyingParty) (policy : Policy) (bytes : List ℕ) → rp.rp_id ≡ s.rp.rp_id
+      → TableOf (version_of s.rows) (saved_of s) bytes → IsLoaded rp policy bytes t → SiteActs valid s Restarts t
+  -- what `restore` makes of a new site of the same rp id, with the table and the sessions that were stored
+  pub restores : (s fresh : site.SiteState) (max_open : ℕ) → fresh.rp.rp_id ≡ s.rp.rp_id
       → SiteActs valid s Reopens (record fresh { rows = s.rows; sessions = record s.sessions { max_open = max_open } })
   -- at an authenticator: a call, and what `load` gives of what `save` appended
   pub asks : (w : World) (k channel : ℕ) (bs : List ℕ) (consent : Consent) (words : Words) (out : Outcome) → length words.id ≡ 32

@@ -1,4 +1,5 @@
 pub mod Ends
+pub mod Forgeries
 pub mod Honest
 pub mod World
 pub mod Agreement

@@ -1,10 +1,12 @@
 -- What the laws of runs ask for before they speak: each premise is met where this is so, and asks for no more.
-use Rattle.std.specs.Prelude.{◌≡◌, ◌<◌, ℕ, List, [], ◌∷◌, ◌++◌, length, map, replicate, Bool, true, false, Some, None, Contains, IsUtf8}
+use Rattle.std.specs.Prelude.{◌≡◌, ◌≢◌, ◌<◌, ℕ, List, [], ◌∷◌, ◌++◌, length, map, replicate, Bool, true, false, Some, None, Contains, IsUtf8}
 use Rattle.std.specs.List.{All}
 use Rattle.std.specs.Option.{ForSome}
 use Rattle.std.specs.FinMap as finite
 use Rattle.sha2.specs.Sha256.{sha256}
 use Rattle.hidframe.specs.declared.Packet.{Packet}
+use Rattle.clientdata.specs.Reading.{seen_of}
+use Rattle.clientdata.specs.declared.seen.Seen.{Seen}
 use Rattle.cose.specs.Keys.{signed_alg}
 use Rattle.cose.specs.Schemes.{Validity}
 use Rattle.cose.specs.declared.key.CoseKey.{CoseKey}
@@ -12,6 +14,8 @@ use Rattle.cose.specs.declared.key.SigningAlg.{SigningAlg}
 use Rattle.authdata.specs.Responses as responses
 use Rattle.authdata.specs.Responses.{AuthenticatorAssertionResponse}
 use Rattle.authdata.specs.declared.statement.AttestationType.{AttestationType}
+use Rattle.ctap_requests.specs.Requests.{AssertionRequest, get_assertion}
+use Rattle.ctap_requests.specs.Status.{IsRequest}
 use Rattle.ctap_replies.specs.Replies as replies
 use Rattle.ctap_replies.specs.Replies.{ReplyOf, assertion_reply, creation_reply}
 use Rattle.verification.specs.Records as expects
@@ -36,7 +40,11 @@ use Rattle.agreement.specs.Agreement.{AnswersSession, IsAccepted, IsAcceptedRegi
 use Rattle.agreement.specs.Ends.{AuthenticatorEnd, Exchange, IsIdleOn}
 use Rattle.agreement.specs.Honest as honest
 use Rattle.agreement.specs.Honest.{AsksForNew, Decided, IsAskedFor, IsHonestRegistration, IsHonestRun, IsHonestSignIn, IsShared, Registering, SigningIn, counts_as}
-use Rattle.agreement.specs.World.{AtSite, Deletes, Done, Event, Happens, IsRun, IsStart, Moment, Nothing, Registers, RegistersBy, SignsIn, SignsInBy, World}
+use Rattle.agreement.specs.Pages.{AskedFrom, IsFromPage}
+use Rattle.agreement.specs.Stays.{IsEnd, MayEnd}
+use Rattle.agreement.specs.World as world
+use Rattle.agreement.specs.World.{Abandons, AtSite, Begins, Bounds, Deletes, Done, Event, Happens, IsRun, IsStart, Moment, Nothing, Registers, RegistersBy, Reloads, Reopens}
+use Rattle.agreement.specs.World.{Retires, SignsIn, SignsInBy, SiteEvent, World}
 
 -- ---- of all runs
 
@@ -90,6 +98,36 @@ pub record RunPremises (valid : Validity) (public : Keys) : Type 0 where
   pub undeleted : (i : ℕ) (id : List ℕ) (moments : List Moment) → All (λ m. m.event ≡ AtSite i (Deletes id) → ⊥) moments → NoneDeleted i id moments
   pub retired : (s : SiteState) (id : List ℕ) (row : Credential) → row_of id s.rows ≡ Some row → row.retired ≡ true → IsRetired s id
 
+-- ---- of sessions that stay, and of pages
+
+pub record SessionPremises : Type 0 where
+  -- no session ends by a begin, a retirement, a deletion, a bound or an opening
+  pub begins : (o : Opening) (n : ℕ) → MayEnd (Begins o) n → ⊥
+  pub retires : (id : List ℕ) (n : ℕ) → MayEnd (Retires id) n → ⊥
+  pub deletes : (id : List ℕ) (n : ℕ) → MayEnd (Deletes id) n → ⊥
+  pub bounds : (max_open n : ℕ) → MayEnd (Bounds max_open) n → ⊥
+  pub reopens : (n : ℕ) → MayEnd Reopens n → ⊥
+  -- nor by what another session is answered or abandoned by
+  pub abandons : (k n : ℕ) → k ≢ n → MayEnd (Abandons k) n → ⊥
+  pub signs_in : (k n : ℕ) (r : AuthenticatorAssertionResponse) → k ≢ n → MayEnd (SignsIn k r) n → ⊥
+  pub signs_in_by : (k n c : ℕ) (ps : List Packet) (t : List ℕ) → k ≢ n → MayEnd (SignsInBy k c ps t) n → ⊥
+  pub registers : (k n : ℕ) (r : responses.AuthenticatorAttestationResponse) → k ≢ n → MayEnd (Registers k r) n → ⊥
+  pub registers_by : (k n c : ℕ) (ps : List Packet) (t : List ℕ) → k ≢ n → MayEnd (RegistersBy k c ps t) n → ⊥
+  -- nor by what is refused, nor by what happens elsewhere: at another site or at an authenticator
+  pub refused : (i n : ℕ) (m : Moment) → m.end ≡ Nothing → IsEnd i n m → ⊥
+  pub other_site : (i j n : ℕ) (m : Moment) (e : SiteEvent) → m.event ≡ AtSite j e → j ≢ i → IsEnd i n m → ⊥
+  pub asks : (i n k channel : ℕ) (bs : List ℕ) (consent : Consent) (words : Words) (m : Moment) → m.event ≡ world.Asks k channel bs consent words → IsEnd i n m → ⊥
+  pub reloads : (i n k : ℕ) (m : Moment) → m.event ≡ Reloads k → IsEnd i n m → ⊥
+
+pub record PagePremises : Type 0 where
+  -- the hash of client data that name a page is one from this page
+  pub from_page : (page t : List ℕ) (seen : Seen) → seen_of t ≡ Some seen → seen.origin ≡ page → IsFromPage (page ∷ []) (sha256 t)
+  -- and so an authenticator was asked from pages alone, where the hash of each getAssertion to it that was carried out is from one of them
+  pub asked : (pages : List (List ℕ)) (k : ℕ) (moments : List Moment)
+      → ((m : Moment) (channel : ℕ) (bs : List ℕ) (consent : Consent) (words : Words) (q : AssertionRequest) → Contains moments m
+      → m.event ≡ world.Asks k channel bs consent words → m.end ≡ Done → IsRequest (get_assertion q) bs → IsFromPage pages q.client_data_hash)
+      → AskedFrom pages k moments
+
 -- ---- of an honest run
 
 pub record HonestPremises (valid : Validity) (public : Keys) : Type 0 where
@@ -137,4 +175,6 @@ pub record HonestPremises (valid : Validity) (public : Keys) : Type 0 where
 
 pub record Premises (valid : Validity) (public : Keys) : Type 0 where
   pub of_runs : RunPremises valid public
+  pub of_sessions : SessionPremises
+  pub of_pages : PagePremises
   pub of_an_honest_run : HonestPremises valid public

@@ -39,8 +39,12 @@ IsOpen w i n x = finite.get (w.site i).sessions.expected n ≡ Some x
 pub record Stays (valid : Validity) (w : World) (past between : List Moment) : Type 0 where
   -- a session that is open after these moments is open after those that follow, if none of them is its end
   pub still_open : (i n : ℕ) (x : Expected) → IsOpen (world_after w past) i n x → All (λ m. IsEnd i n m → ⊥) between → IsOpen (world_after w (past ++ between)) i n x
-  -- and so a sign-in that it would accept it accepts still, whatever else happens, if the credential's row is as it was
+  -- a site has its rp id to the end, however often it is opened, and with whatever pages and profile
+  pub party : (i : ℕ) → ((world_after w (past ++ between)).site i).rp.rp_id ≡ ((world_after w past).site i).rp.rp_id
+  -- and a sign-in that the session would accept it accepts still, whatever else happens, if the site has the pages and the profile that it had, and
+  -- the credential's row is as it was
   pub accepted : (i n : ℕ) (x : Expected) (r : AuthenticatorAssertionResponse) → IsOpen (world_after w past) i n x → All (λ m. IsEnd i n m → ⊥) between
+      → ((world_after w (past ++ between)).site i).rp ≡ ((world_after w past).site i).rp
       → row_of r.credential ((world_after w (past ++ between)).site i).rows ≡ row_of r.credential ((world_after w past).site i).rows
       → PassesSignIn valid (judged_sign_in ((world_after w past).site i) n r)
       → PassesSignIn valid (judged_sign_in ((world_after w (past ++ between)).site i) n r)

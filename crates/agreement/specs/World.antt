@@ -45,7 +45,8 @@ pub record World : Type 0 where
 
 -- at a site: what its calls do; that sessions which began too long ago are ended, however many; that another bound is
 -- set on its open sessions; that it begins again with the table that it saved; and that it is opened again where each call
--- stores it. A call that a crash cuts off has its effect or none, and then the site is opened again
+-- stores it, which may be with other pages, another profile or another policy. A call that a crash cuts off has its effect or
+-- none, and then the site is opened again
 pub data SiteEvent : Type 0 where
   Begins : (opening : Opening) → SiteEvent
   Abandons : (session : ℕ) → SiteEvent
@@ -72,14 +73,13 @@ abbrev pub words_of : Opening → List ℕ
 words_of (OpensSignIn user allow uv words) = words
 words_of (OpensRegistration user algorithms uv words asks) = words
 
--- what is loaded of what was saved, for the same relying party
+-- what is loaded of what was saved, for the same rp id
 pub record Loads (s t : site.SiteState) : Type 0 where
   pub bytes : List ℕ
   pub saved : TableOf (version_of s.rows) (saved_of s) bytes
   pub version : ℕ
   pub loaded : TableOf version (saved_of t) bytes
-  pub rp : t.rp ≡ s.rp
-  pub policy : t.policy ≡ s.policy
+  pub rp_id : t.rp.rp_id ≡ s.rp.rp_id
   pub none_open : t.sessions ≡ none_open t.sessions.max_open t.sessions.next
 
 -- sessions are ended, any of them; the others are as they were, and so is all else
@@ -87,9 +87,15 @@ pub record EndsSessions (s t : site.SiteState) : Type 0 where
   pub left : (n : ℕ) → (finite.get t.sessions.expected n ≡ None) ⊎ (finite.get t.sessions.expected n ≡ finite.get s.sessions.expected n)
   pub same : t ≡ record s { sessions = record s.sessions { expected = t.sessions.expected } }
 
--- with this bound on its open sessions; so it may be opened again
-abbrev pub reopened : ℕ → site.SiteState → site.SiteState
-reopened max_open s = record s { sessions = record s.sessions { max_open = max_open } }
+-- with this bound on its open sessions
+abbrev pub with_bound : ℕ → site.SiteState → site.SiteState
+with_bound max_open s = record s { sessions = record s.sessions { max_open = max_open } }
+
+-- opened again for the same rp id, with its credentials and its open sessions: its pages, its profile, its policy and its bound may be others
+pub record IsReopened (s t : site.SiteState) : Type 0 where
+  pub rp_id : t.rp.rp_id ≡ s.rp.rp_id
+  pub rows : t.rows ≡ s.rows
+  pub sessions : t.sessions ≡ record s.sessions { max_open = t.sessions.max_open }
 
 -- without the credential of an id; the others stay, in their order
 abbrev pub after_delete : site.SiteState → List ℕ → site.SiteState
@@ -114,9 +120,9 @@ SiteActs valid s (RegistersBy n c ps d) t =
     (λ r. registration.PassesRegistration valid (with_room (judged_registration s n (registering.response r d)))) c ps
     × registering.IsAfter s n d c ps t
 SiteActs valid s Expires t = EndsSessions s t
-SiteActs valid s (Bounds max_open) t = t ≡ reopened max_open s
+SiteActs valid s (Bounds max_open) t = t ≡ with_bound max_open s
 SiteActs valid s Restarts t = Loads s t
-SiteActs valid s Reopens t = t ≡ reopened t.sessions.max_open s
+SiteActs valid s Reopens t = IsReopened s t
 
 -- one site, or one authenticator, has changed and no other
 pub record ChangesSite (old new : World) (i : ℕ) (s : site.SiteState) : Type 0 where

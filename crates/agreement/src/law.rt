@@ -9,6 +9,7 @@ ghost use Rattle.agreement.specs.Below.{Below};
 ghost use Rattle.agreement.specs.Calls.{CallsAct};
 ghost use Rattle.agreement.specs.Dropped.{DropsOfAllRuns};
 ghost use Rattle.agreement.specs.Ends.{IsIdleOn};
+ghost use Rattle.agreement.specs.Forgeries.{ForgeriesOfAllRuns};
 ghost use Rattle.agreement.specs.Honest.{AcceptsBoth, IsAskedFor, IsHonestRegistration, IsHonestRun, IsHonestSignIn, IsShared, Registering};
 ghost use Rattle.agreement.specs.Hosts.{HostsRuns};
 ghost use Rattle.agreement.specs.Honest.{Registers, Run, SigningIn, SignsIn};
@@ -41,13 +42,14 @@ pub fn below<V: Verifier>()
 
 /// No sign-in is accepted without a fresh assertion by an authenticator, in each run in which signatures can't be forged:
 /// whatever packets, client data and requests an adversary makes, of any number of sites and authenticators. And in each run,
-/// whether or not signatures can be forged, what an authenticator has signed and which keys it has made is accounted for by
+/// whether or not signatures can be forged, a sign-in that is accepted without one shows a forgery under its credential's key; what an authenticator has signed and which keys it has made is accounted for by
 /// the requests to it; and a credential that it stores no more was dropped by a request to which presence was given: a reset, or
 /// a makeCredential for a resident one of the same relying party and user. An open session stays until its end, and what an
 /// authenticator was asked for from some pages signs in at no site but theirs. What these laws ask of a run is said in plain
 /// words. It is so for each verifier, and for each function from secrets to keys.
 pub fn of_all_runs<V: Verifier>()
     ensures agreement { (verifier : V) (public : Keys) → OfAllRuns (V.valid verifier) public }
+    ensures forgeries { (verifier : V) (public : Keys) → ForgeriesOfAllRuns (V.valid verifier) public }
     ensures ledger { (verifier : V) (public : Keys) → LedgerOfAllRuns (V.valid verifier) public }
     ensures dropped { (verifier : V) (public : Keys) → DropsOfAllRuns (V.valid verifier) public }
     ensures begun { (verifier : V) (public : Keys) → SessionsOfAllRuns (V.valid verifier) public }

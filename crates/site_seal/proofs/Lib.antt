@@ -1,4 +1,4 @@
-mod Algorithms
+pub mod Algorithms
 pub mod Bytes
 mod Judging
 pub mod Texts

@@ -31,6 +31,7 @@ not_begun g s o words now (Err y) e is n shut = record {
   begun = tt;
   input = tt;
   next = tt;
+  given = tt;
   refused = subst (IsNotBegun s s o) (sym is) n;
   held = tt;
   beside = tt;

@@ -55,7 +55,7 @@ abbrev head_of : Row → List Row → Row
 head_of none [] = none
 head_of none (r ∷ rs) = r
 
-found_one : (rp_id : List ℕ) (n : ℕ) → filter (has_rowid (pos 1)) (site_row rp_id n ∷ []) ≡ site_row rp_id n ∷ []
+pub found_one : (rp_id : List ℕ) (n : ℕ) → filter (has_rowid (pos 1)) (site_row rp_id n ∷ []) ≡ site_row rp_id n ∷ []
 found_one rp_id n = rw (by_number 1 1) refl
 
 pub one_number : (rp_id : List ℕ) (m n : ℕ) (db : Trees) → HasParty rp_id m db → db 2 ≡ site_row rp_id n ∷ [] → m ≡ n

@@ -16,7 +16,7 @@ mod ShutOut
 mod Registering
 mod Scans
 mod New
-mod Counting
+pub mod Counting
 mod Laws
 mod ReadTo
 mod Reading

@@ -26,7 +26,7 @@ use Rattle.site_state.specs.Details.{Detail}
 use Rattle.site_stored.specs.Summaries.{Summarises}
 use Rattle.site_rows.specs.Details.{Details, HoldsDetails, used}
 use Rattle.sqlite_trees.specs.Tree.{Trees}
-use Rattle.site_stored.specs.State.{StoredState, ended_user_tree, mark_after, site_tree, to_commit, IsHeld}
+use Rattle.site_stored.specs.State.{AreReserved, StoredState, ended_user_tree, mark_after, site_tree, to_commit, IsHeld}
 use Rattle.site_stored.specs.declared.failure.Failure.{Failure}
 use Rattle.site_stored.specs.declared.failure.Failure.TheVariants as failures
 use Rattle.site_stored.specs.declared.failure.BeginFailure.{BeginFailure}
@@ -119,6 +119,7 @@ pub record Begins {S : Type 0} (g : Ghosts S) (old new : StoredState S) (o : Ope
   pub begun : IfOk result (λ b. (b.session ≡ old.next) × (b.challenge ≡ challenge_of old.next words) × (b.text.items ≡ begun_text old o now))
   pub input : OnOk result (IsInput old.rp.profile o)
   pub next : OnOk result (new.next ≡ old.next + 1)
+  pub given : OnOk result (AreReserved new)
   pub refused : IfErr result (IsNotBegun old new o)
   pub held : OnOk result (IsClean (g.view new.store) → (placed : Placed) → IsHeld placed old (g.view old.store).trees → IsHeld placed new (g.view new.store).trees)
   pub beside : OnOk result (IsClean (g.view new.store) → KeepsBeside (site_tree ∷ []) (g.view old.store).trees (g.view new.store).trees)

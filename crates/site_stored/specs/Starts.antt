@@ -6,7 +6,7 @@ use Rattle.verification.specs.Records.{RelyingParty}
 use Rattle.verification.specs.declared.party.Policy.{Policy}
 use Rattle.site_rows.specs.Endings.{HoldsEndings}
 use Rattle.site_rows.specs.Held.{Placed}
-use Rattle.site_stored.specs.State.{HasKey, HasParty, HoldsSite, IsHeld, StoredState, ended_session_tree, ended_user_tree}
+use Rattle.site_stored.specs.State.{AreReserved, FitsColumn, HasKey, HasParty, HoldsSite, IsHeld, StoredState, ended_session_tree, ended_user_tree}
 use Rattle.site_stored.specs.declared.create.Bounds.{Bounds}
 use Rattle.site_stored.specs.declared.open.Opening.{Opening}
 
@@ -19,6 +19,7 @@ IsStarted party policy bounds s =
 pub record IsMade {S : Type 0} (view : S → View) (party : RelyingParty) (policy : Policy) (bounds : Bounds) (s : StoredState S) : Type 0 where
   pub started : IsStarted party policy bounds s
   pub next : s.next ≡ 1
+  pub given : AreReserved s
   pub held : IsClean (view s.store) → IsHeld finite.empty s (view s.store).trees
   pub key : IsClean (view s.store) → HasKey s.key (view s.store).trees
   pub none : IsClean (view s.store) → HoldsEndings ended_session_tree finite.empty (view s.store).trees × HoldsEndings ended_user_tree finite.empty (view s.store).trees
@@ -28,6 +29,7 @@ pub record IsMade {S : Type 0} (view : S → View) (party : RelyingParty) (polic
 pub record IsOpened {S : Type 0} (view : S → View) (o : Opening) (s : StoredState S) : Type 0 where
   pub started : IsStarted o.party o.policy o.bounds s
   pub next : s.next ≡ s.reserved
+  pub fits : FitsColumn s.reserved
   pub key : IsClean (view s.store) → HasKey s.key (view s.store).trees
   pub party : IsClean (view s.store) → HasParty o.party.rp_id s.reserved (view s.store).trees
   pub held : IsClean (view s.store) → (placed : Placed) (next : ℕ) → HoldsSite placed o.party.rp_id next (view s.store).trees

@@ -160,6 +160,10 @@ pub record IsHeld {S : Type 0} (placed : Placed) (s : StoredState S) (db : Trees
   pub count : finite.len placed ≡ s.count
   pub last : (place : ℕ) (c : Credential) → finite.get placed place ≡ Some c → place ≤ s.last
 
+-- each number that was given is below those that are reserved, which a column can hold
+abbrev pub AreReserved : {S : Type 0} → StoredState S → Type 0
+AreReserved s = (s.next ≤ s.reserved) × FitsColumn s.reserved
+
 -- the store is open and not broken, its trees have the shapes of a site's, and where nothing waits to be committed all is
 pub record IsReady (v : View) (is_pending : Bool) : Type 0 where
   pub trees : HasTrees v

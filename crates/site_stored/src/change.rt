@@ -112,7 +112,7 @@ pub(crate) fn cut_off<S: Store>(
     )
 }
 
-/// The same of the user of a credential that is retired or gone now, if it is.
+/// As above, for the user of a credential that is now retired or gone.
 fn cut_off_found<S: Store>(
     key: &[u8; 32],
     next: u64,
@@ -138,8 +138,8 @@ fn cut_off_found<S: Store>(
 
 impl<S: Store> StoredSite<S> {
     /// Retires the credential of an id: true where there is one that was not retired; else nothing changes. A retired credential
-    /// signs in no more, stays in its place, and its id stays taken; and the registrations of its user that have begun have ended. It is
-    /// to be committed before it is told.
+    /// signs in no more, stays in its place, and its id stays taken; and the registrations of its user that have begun have ended. Commit
+    /// before you answer.
     pub fn retire(&mut self, id: &[u8], now: u64) -> Result<bool, Failure>
         ensures told { IfOk result (λ was. IsClean (S.Store.view self.new.store) → (placed : Placed) → IsHeld placed self.old (S.Store.view self.old.store).trees
             → (after : Placed) × TellsRetired placed id.now was after × IsHeld after self.new (S.Store.view self.new.store).trees) }
@@ -162,7 +162,7 @@ impl<S: Store> StoredSite<S> {
     }
 
     /// Deletes the credential of an id, and all that is known of it: true where there is one; else nothing changes. Its id may be
-    /// registered again, and the registrations of its user that have begun have ended. It is to be committed before it is told.
+    /// registered again, and the registrations of its user that have begun have ended. Commit before you answer.
     pub fn delete(&mut self, id: &[u8], now: u64) -> Result<bool, Failure>
         ensures told { IfOk result (λ was. IsClean (S.Store.view self.new.store) → (placed : Placed) → IsHeld placed self.old (S.Store.view self.old.store).trees
             → (after : Placed) × TellsDeleted placed id.now was after × IsHeld after self.new (S.Store.view self.new.store).trees) }

@@ -101,8 +101,8 @@ fn unretired(rows: &[Row]) -> usize
 
 impl<S: Store> StoredSite<S> {
     /// Deletes each credential of a user, and all that is known of it: how many there were. Their ids may be registered again, and the
-    /// user's registrations that have begun have ended, also those of a user without credentials. It is to be committed before it is
-    /// told. It takes memory for each credential.
+    /// user's registrations that have begun have ended, also those of a user without credentials. Commit before you
+    /// answer. It takes memory for each credential.
     pub fn erase(&mut self, user: &[u8], now: u64) -> Result<usize, Failure>
         ensures told { IfOk result (λ told. IsClean (S.Store.view self.new.store) → (placed : Placed) → IsHeld placed self.old (S.Store.view self.old.store).trees
             → (after : Placed) × TellsErased placed user.now told after × IsHeld after self.new (S.Store.view self.new.store).trees) }
@@ -129,8 +129,8 @@ impl<S: Store> StoredSite<S> {
     }
 
     /// Retires each credential of a user: how many were not retired. They sign in no more, stay in their places, and their ids stay
-    /// taken; and the user's registrations that have begun have ended, also those of a user without credentials. It is to be committed
-    /// before it is told. It takes memory for each credential.
+    /// taken; and the user's registrations that have begun have ended, also those of a user without credentials. Commit before
+    /// you answer. It takes memory for each credential.
     pub fn retire_all(&mut self, user: &[u8], now: u64) -> Result<usize, Failure>
         ensures told { IfOk result (λ told. IsClean (S.Store.view self.new.store) → (placed : Placed) → IsHeld placed self.old (S.Store.view self.old.store).trees
             → (after : Placed) × TellsAllRetired placed user.now told after × IsHeld after self.new (S.Store.view self.new.store).trees) }

@@ -177,10 +177,10 @@ fn sign_in_found<S: Store, V: Verifier>(
 
 impl<S: Store> StoredSite<S> {
     /// Finishes a sign-in in the session of a text, at this second of the host's clock: the response's credential keeps the counter and the
-    /// mark of eligibility that came, its detail this second as that of its last use, and the session has ended. It is to be committed
-    /// before it is told.
+    /// mark of eligibility that came, its detail this second as that of its last use, and the session has ended. Commit before
+    /// you answer.
     ///
-    /// `Site` with the first step of section 7.2 that the response does not pass in this session, or with want of memory: a text that is
+    /// `Site` with the first step of section 7.2 that the response does not pass in this session, or if memory runs out: a text that is
     /// not that of an open session for sign-in has none. Then nothing has changed: the session is open.
     pub fn finish_parts<V: Verifier>(
         &mut self,

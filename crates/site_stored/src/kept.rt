@@ -4,7 +4,7 @@ ghost use Rattle.std.specs.Prelude.{◌≡◌, ◌⊎◌, ◌≤◌, ℕ, IfErr,
 ghost use Rattle.sqlite_trees.specs.Tree.{Trees};
 ghost use Rattle.sqlite_trees.specs.View.{IsClean};
 ghost use Rattle.site_rows.specs.Held.{Placed};
-ghost use Rattle.site_stored.specs.State.{IsHeld, IsSound, committed_as, known, to_commit, site_tree, mark_tree};
+ghost use Rattle.site_stored.specs.State.{AreReserved, IsHeld, IsSound, committed_as, known, to_commit, site_tree, mark_tree};
 ghost use Rattle.site_stored.specs.Calls.{IsCommit, IsFailure};
 ghost use Rattle.site_stored.specs.Causes.{RefusesCommit, SiteFails};
 ghost use Rattle.site_stored.specs.declared.failure.Failure.TheVariants as failures;
@@ -20,7 +20,7 @@ use verification::{Policy, RelyingParty};
 /// A relying party whose credentials are rows of a store, and whose sessions are texts that it has sealed: nothing is kept of one
 /// that has begun, and one that was answered or abandoned is a row of the store until its time is over.
 ///
-/// A call writes what it answers, and `commit` commits all that was written since the last one: an answer is told only after
+/// A call writes what it answers, and `commit` commits all that was written since the last one: answer only after
 /// it. So one commit serves many calls. A failure of the disk or of memory while it writes shuts the site: each further call
 /// says so, and what an open of the file finds is what was committed.
 #[derive(Drop)]
@@ -129,10 +129,11 @@ impl<S: Store> StoredSite<S> {
     /// Commits what was written since the last commit, if anything was. What the calls since then answered may be told now.
     ///
     /// More numbers are reserved in the same commit, and the next session has none that an earlier commit has reserved: so its
-    /// number tells each earlier copy of the store from this one (`open`). The commit has a mark of its own, and names that of the
+    /// number differs from that of each earlier copy of the store (`open`). The commit has a mark of its own, and names that of the
     /// commit before it.
     pub fn commit(&mut self) -> Result<(), Failure>
         ensures kept { OnOk result (IsCommit self.old self.new) }
+        ensures given { OnOk result (AreReserved self.new) }
         ensures held { OnOk result (IsClean (S.Store.view self.new.store) → (placed : Placed) → IsHeld placed self.old (S.Store.view self.old.store).trees
             → IsHeld placed self.new (S.Store.view self.new.store).trees) }
         ensures beside { OnOk result (IsClean (S.Store.view self.new.store) → (tree : ℕ) → (tree ≡ site_tree → ⊥) → (tree ≡ mark_tree → ⊥)

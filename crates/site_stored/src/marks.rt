@@ -18,7 +18,7 @@ use sqlite_value::row::Row;
 use sqlite_value::value::ValueRef;
 use std::alloc::{AllocError, Global};
 
-/// The number of which the sum of a mark is a multiple.
+/// The sum of a mark is a multiple of this number.
 const TIMES: u128 = 11_400_714_819_323_198_485;
 
 /// The row with these bytes.

@@ -91,7 +91,7 @@ fn place_of(alloc: Global, row: &Row) -> Result<u32, OpenFailure>
     }
 }
 
-/// Takes the row at the cursor, and tells its place; none where there is no row.
+/// The place of the row at the cursor, which is taken; none if there is no row.
 fn next_place<S: Store>(
     alloc: Global,
     store: &mut S,
@@ -120,7 +120,7 @@ struct Count {
     last: u32,
 }
 
-/// Counts the credentials. Each is read, so that a row which is none is told.
+/// Counts the credentials. Each is read, so that a damaged row is found.
 fn count_rows<S: Store>(alloc: Global, store: &mut S) -> Result<Count, OpenFailure>
     ensures counted { IfOk result (λ x. IsClean (S.Store.view store.new) → (length ((S.Store.view store.old).trees credential_tree) ≡ x.count)
         × AllByRecursion (IsUpTo x.last) ((S.Store.view store.old).trees credential_tree)) }

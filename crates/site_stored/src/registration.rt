@@ -152,7 +152,7 @@ fn row_of(
     })
 }
 
-/// What is told of a registration, and what is kept of it beside the credential: the detail, with the aaguid that the response
+/// What a registration answers, and what is kept of it beside the credential: the detail, with the aaguid that the response
 /// attests.
 fn told(
     alloc: Global,
@@ -261,9 +261,9 @@ fn open_registration<S: Store>(
 impl<S: Store> StoredSite<S> {
     /// Finishes a registration in the session of a text, at this second of the host's clock: the credential that the response attests
     /// stands last, as the session's user's, and the session has ended. The detail is kept with it, with the aaguid that the response
-    /// attests. It is to be committed before it is told.
+    /// attests. Commit before you answer.
     ///
-    /// `Site` with the first step of section 7.1 that the response does not pass in this session, or with want of memory: a text that is
+    /// `Site` with the first step of section 7.1 that the response does not pass in this session, or if memory runs out: a text that is
     /// not that of an open session for registration has none, and one whose user has lost a credential since it began. Then nothing has
     /// changed: the session is open.
     pub fn finish_registration_parts<V: Verifier>(

@@ -35,7 +35,7 @@ pub struct Begun {
     pub session: u64,
     /// The challenge that the client is to answer: the number in 8 big-endian bytes, then the words.
     pub challenge: [u8; 32],
-    /// The session as a text under the site's key, of at most 2,155 bytes. It is all that is kept of it: who finishes the ceremony hands it in.
+    /// The session as a text under the site's key, of at most 2,156 bytes. It is all that is kept of it: who finishes the ceremony hands it in.
     pub text: Vec<u8>,
 }
 
@@ -227,7 +227,7 @@ pub(crate) fn end_session<S: Store>(
 }
 
 impl<S: Store> StoredSite<S> {
-    /// Ends the open session of a text: true exactly where there was one. It is to be committed before it is told.
+    /// Ends the open session of a text: true exactly where there was one. Commit before you answer.
     ///
     /// `Memory` where there was none to read the text: then nothing has changed.
     pub fn abandon(&mut self, text: &[u8], now: u64) -> Result<bool, SessionFailure>

@@ -1,4 +1,4 @@
-//! What authenticator data say, kept for what is told of a ceremony.
+//! What authenticator data say, kept for the answer to a ceremony.
 
 ghost use Rattle.std.specs.Prelude.{◌≡◌, IfOk, option_map};
 ghost use Rattle.authdata.specs.Layout.{lent_auth_view};

@@ -1,24 +1,38 @@
 -- By what the contracts of a site's calls say, each makes of what is kept what a call of a history does.
-use Rattle.std.proofs.Common.{◌≡◌, ℕ, suc, Bool, true, false, List, [], ◌∷◌, filter, length, map, not, refl, sym, ap, ◌∙◌, arith}
-use Rattle.std.specs.Prelude.{Err, IfOk, Ok, OnOk, Result}
-use Rattle.sqlite_value.specs.Order.{Row, column}
-use Rattle.sqlite_trees.specs.Tree.{Trees}
+use Rattle.std.proofs.Common.{◌≡◌, ◌+◌, ℕ, suc, pos, Bool, true, false, List, [], ◌∷◌, filter, length, map, not, refl, sym, ap, ◌∙◌, subst, arith}
+use Rattle.std.specs.Prelude.{⊤, Err, IfOk, Ok, OnOk, Option, Result}
+use Rattle.sqlite_value.specs.Order.{Row, bytes, column}
+use Rattle.sqlite_trees.specs.Tree.{Trees, has_rowid}
 use Rattle.sqlite_trees.specs.View.{View, IsClean}
+use Rattle.base64.specs.GeneralPurpose.{IsBytes}
 use Rattle.cose.specs.Schemes.{Validity}
+use Rattle.cose.specs.declared.key.Alg.{Alg}
 use Rattle.authdata.specs.Responses.{AuthenticatorAssertionResponse, AuthenticatorAttestationResponse}
-use Rattle.verification.specs.Records.{Credential}
+use Rattle.verification.specs.Records.{Credential, RelyingParty}
+use Rattle.verification.specs.declared.party.Policy.{Policy}
 use Rattle.site_rows.specs.Endings.{Endings, HoldsEndings}
 use Rattle.site_rows.specs.Held.{Placed}
 use Rattle.site_rows.specs.Trees.{detail_tree}
 use Rattle.site_rows.proofs.One.{number_once}
+use Rattle.site_stored.proofs.Counting.{found_one}
 use Rattle.site_stored.specs.Calls as calls
 use Rattle.site_stored.specs.Calls.{IsOneSite, KeepsBeside, TellsAbandoned, TellsAllRetired, TellsDeleted, TellsErased, TellsRetired, credential_trees}
-use Rattle.site_stored.specs.Sessions.{EndsSession, accepted}
-use Rattle.site_stored.specs.State.{IsHeld, StoredState, ended_session_tree, ended_user_tree, site_tree}
+use Rattle.site_stored.specs.Sessions.{EndsSession, accepted, begun_text}
+use Rattle.site_stored.specs.Starts.{IsMade, IsOpened}
+use Rattle.site_stored.specs.State.{AreReserved, HasKey, HoldsSite, IsHeld, StoredState, ended_session_tree, ended_user_tree, mark_tree, site_row, site_tree}
+use Rattle.site_stored.specs.declared.create.Bounds.{Bounds}
 use Rattle.site_stored.specs.declared.finish.SignedIn.{SignedIn}
+use Rattle.site_stored.specs.declared.open.Opening as starts
 use Rattle.site_stored.specs.declared.registration.Registered.{Registered}
-use Rattle.stored_runs.specs.Made.{Makes, kept_as, nothing_valid}
-use Rattle.stored_runs.specs.History.{Abandons, Deletes, Erases, IsKept, Registers, Retires, RetiresAll, SignsIn, ids_of, of_user}
+use Rattle.site_stored.specs.declared.session.Begun as handed
+use Rattle.site_seal.proofs.Algorithms.{listed_in_order}
+use Rattle.site_seal.specs.Seal.{is_ed_dsa, is_es256, is_rs256, ordered}
+use Rattle.site_state.specs.Sessions.{IsInput, Opening, OpensRegistration, OpensSignIn, challenge_of}
+use Rattle.site_state.specs.declared.session.Asks.{Asks}
+use Rattle.std.specs.List.{list_any}
+use Rattle.agreement.specs.World.{words_of}
+use Rattle.stored_runs.specs.Made.{Makes, MakesBegun, MakesCommitted, MakesNew, MakesOpened, kept_as, nothing_valid}
+use Rattle.stored_runs.specs.History.{Abandons, Deletes, Erases, IsKept, MayBegin, Registers, Retires, RetiresAll, SignsIn, ids_of, of_user}
 
 abbrev head_of : Row → List Row → Row
 head_of none [] = none
@@ -222,3 +236,96 @@ module _ {S : Type 0} (view : S → View) (old new : StoredState S) where
           (refl, keeps.2, gone.1),
         ),
       )
+
+  -- ---- sessions begin
+
+  pub may_sign_in : {E : Type 0} (result : Result handed.Begun E) (user : Option (List ℕ)) (allow : List (List ℕ)) (uv : Bool) (words : List ℕ) → length words ≡ 24
+      → OnOk result (IsInput old.rp.profile (OpensSignIn user allow uv words)) → OnOk result (MayBegin old.rp.profile (OpensSignIn user allow uv words))
+  may_sign_in (Err e) user allow uv words size is = tt
+  may_sign_in (Ok b) user allow uv words size is = (is, size)
+
+  pub may_register : {E : Type 0} (result : Result handed.Begun E) (user : List ℕ) (offered : List Alg) (uv : Bool) (words : List ℕ) (asks : Asks) → length words ≡ 24
+      → OnOk result (IsInput old.rp.profile (OpensRegistration user (ordered offered) uv words asks))
+      → OnOk result (MayBegin old.rp.profile (OpensRegistration user (ordered offered) uv words asks))
+  may_register (Err e) user offered uv words asks size is = tt
+  may_register (Ok b) user offered uv words asks size is =
+      (is, size, listed_in_order (list_any is_es256 offered) (list_any is_ed_dsa offered) (list_any is_rs256 offered))
+
+  pub begins : {E : Type 0} (o : Opening) (now : ℕ) (result : Result handed.Begun E) → IsBytes (words_of o) → OnOk result (MayBegin old.rp.profile o)
+      → IfOk result (λ b. (b.session ≡ old.next) × (b.challenge ≡ challenge_of old.next (words_of o)) × (b.text.items ≡ begun_text old o now))
+      → OnOk result (new.next ≡ old.next + 1) → OnOk result (AreReserved new)
+      → OnOk result (IsClean (view new.store) → (placed : Placed) → IsHeld placed old before → IsHeld placed new after)
+      → OnOk result (IsClean (view new.store) → KeepsBeside (site_tree ∷ []) before after) → OnOk result (IsOneSite old new × (new.is_shut ≡ false))
+      → IfOk result (λ b. MakesBegun view old o now b new)
+  begins o now (Err e) bytes may told next given held beside one = tt
+  begins o now (Ok b) bytes may told next given held beside one = (
+    λ clean placed ended is. (
+      tt,
+      placed,
+      ended,
+      (
+        record {
+          held = held clean placed is.held;
+          ended = beside clean ended_session_tree (λ e. omega (arith, e), tt) ∙ is.ended;
+          given = given.0;
+          reserved = given.1;
+        },
+        one.0,
+        (bytes, may, refl, next, refl),
+      ),
+    ),
+    told.0,
+    told.2,
+  )
+
+  -- ---- commits and opens
+
+  pub commits : {E : Type 0} (result : Result ⊤ E) → OnOk result (calls.IsCommit old new) → OnOk result (AreReserved new)
+      → OnOk result (IsClean (view new.store) → (placed : Placed) → IsHeld placed old before → IsHeld placed new after)
+      → OnOk result (IsClean (view new.store) → (tree : ℕ) → (tree ≡ site_tree → ⊥) → (tree ≡ mark_tree → ⊥) → after tree ≡ before tree)
+      → OnOk result (MakesCommitted view old new)
+  commits (Err e) is given held beside = tt
+  commits (Ok u) is given held beside = λ clean placed ended kept. (
+    record {
+      held = held clean placed kept.held;
+      ended = beside clean ended_session_tree (λ e. omega (arith, e)) (λ e. omega (arith, e)) ∙ kept.ended;
+      given = given.0;
+      reserved = given.1;
+    },
+    (refl, refl, is),
+  )
+
+module _ {S : Type 0} (view : S → View) where
+  made : (party : RelyingParty) (policy : Policy) (bounds : Bounds) (new : StoredState S) → IsMade view party policy bounds new → MakesNew view new
+  made party policy bounds new is clean = (
+    record { held = is.held clean; ended = (is.none clean).0; given = is.given.0; reserved = is.given.1 },
+    is.key clean,
+  )
+
+  pub makes : {E : Type 0} (party : RelyingParty) (policy : Policy) (bounds : Bounds) (result : Result (StoredState S) E)
+      → IfOk result (IsMade view party policy bounds) → IfOk result (MakesNew view)
+  makes party policy bounds (Err e) is = tt
+  makes party policy bounds (Ok new) is = made party policy bounds new is
+
+  opened : (o : starts.Opening) (new : StoredState S) → IsOpened view o new → MakesOpened view new
+  opened o new is clean kept kept_is has_key same =
+      let trees = (view new.store).trees in
+      let found = is.party clean in
+      let there : HoldsSite kept.placed kept.state.rp.rp_id kept.state.reserved trees = subst (λ (db : Trees). HoldsSite kept.placed kept.state.rp.rp_id kept.state.reserved db) same kept_is.held.holds in
+      let row : site_row kept.state.rp.rp_id kept.state.reserved ∷ [] ≡ site_row o.party.rp_id new.reserved ∷ [] =
+      sym (ap (λ (rows : List Row). filter (has_rowid (pos 1)) rows) there.site ∙ found_one kept.state.rp.rp_id kept.state.reserved) ∙ found in
+      let rp_id : kept.state.rp.rp_id ≡ o.party.rp_id = ap (λ (rows : List Row). bytes (column (head_of [] rows) 3)) row in
+      let key : new.key ≡ kept.state.key = ap (λ (rows : List Row). bytes (column (head_of [] rows) 2))
+      (sym (is.key clean) ∙ subst (λ (db : Trees). HasKey kept.state.key db) same has_key) in (
+        record {
+          held = is.held clean kept.placed kept.state.reserved (subst (λ (id : List ℕ). HoldsSite kept.placed id kept.state.reserved trees) rp_id there);
+          ended = subst (λ (db : Trees). HoldsEndings ended_session_tree kept.ended db) same kept_is.ended;
+          given = let n = is.next in omega arith;
+          reserved = is.fits;
+        },
+        record { trees = sym same; rp_id = ap (λ (p : RelyingParty). p.rp_id) is.started.0 ∙ sym rp_id; key = key; next = is.next },
+      )
+
+  pub opens : {E : Type 0} (o : starts.Opening) (result : Result (StoredState S) E) → IfOk result (IsOpened view o) → IfOk result (MakesOpened view)
+  opens o (Err e) is = tt
+  opens o (Ok new) is = opened o new is

@@ -190,8 +190,8 @@ module _ {S : Type 0} (valid : Validity) (public : Keys) (laws : Laws valid) (i 
 
   -- all is committed
   goes_on : (old new : Store S) (cs : List Begun) → Goes old → IsKept new.now → AreNamed new.now.placed → new.committed ≡ new.now → new.begun ≡ cs → new.now.state.key ≡ old.now.state.key
-      → new.now.state.rp ≡ old.now.state.rp → ((b : Begun) → Contains cs b → Contains old.begun b × (b.number < new.now.state.next)) → Goes new
-  goes_on old new cs goes kept named committed begun key rp few = record {
+      → new.now.state.rp.rp_id ≡ old.now.state.rp.rp_id → ((b : Begun) → Contains cs b → Contains old.begun b × (b.number < new.now.state.next)) → Goes new
+  goes_on old new cs goes kept named committed begun key rp_id few = record {
     now = kept;
     committed = subst IsKept (sym committed) kept;
     named = named;
@@ -199,7 +199,7 @@ module _ {S : Type 0} (valid : Validity) (public : Keys) (laws : Laws valid) (i 
     key = ap (λ (k : Kept S). k.state.key) committed;
     rp = ap (λ (k : Kept S). k.state.rp) committed;
     begun = subst (λ (bs : List Begun). AreBegun new.now.state.key new.now.state.rp.rp_id new.now.state.next bs) (sym begun)
-        (subst (λ (p : RelyingParty). AreBegun new.now.state.key p.rp_id new.now.state.next cs) (sym rp)
+        (subst (λ (p : List ℕ). AreBegun new.now.state.key p new.now.state.next cs) (sym rp_id)
         (subst (λ (k : List ℕ). AreBegun k old.now.state.rp.rp_id new.now.state.next cs) (sym key) (record {
           each = λ b there. goes.begun.each b (few b there).0;
           given = λ b there. (few b there).1;
@@ -214,12 +214,12 @@ module _ {S : Type 0} (valid : Validity) (public : Keys) (laws : Laws valid) (i 
       go false idle = ap (λ (s : StoredState S). s.key) (is.2.quiet idle)
       go true busy = ap (λ (s : StoredState S). s.key) (is.2.moved busy)
 
-  commit_rp : (old new : Kept S) → IsCommitted old new → new.state.rp ≡ old.state.rp
-  commit_rp old new is = go old.state.is_pending refl
+  commit_rp_id : (old new : Kept S) → IsCommitted old new → new.state.rp.rp_id ≡ old.state.rp.rp_id
+  commit_rp_id old new is = go old.state.is_pending refl
     where
-      go : (b : Bool) → old.state.is_pending ≡ b → new.state.rp ≡ old.state.rp
-      go false idle = ap (λ (s : StoredState S). s.rp) (is.2.quiet idle)
-      go true busy = ap (λ (s : StoredState S). s.rp) (is.2.moved busy)
+      go : (b : Bool) → old.state.is_pending ≡ b → new.state.rp.rp_id ≡ old.state.rp.rp_id
+      go false idle = ap (λ (s : StoredState S). s.rp.rp_id) (is.2.quiet idle)
+      go true busy = ap (λ (s : StoredState S). s.rp.rp_id) (is.2.moved busy)
 
   commit_next : (old new : Kept S) → IsCommitted old new → old.state.next ≤ new.state.next
   commit_next old new is = go old.state.is_pending refl
@@ -259,7 +259,7 @@ module _ {S : Type 0} (valid : Validity) (public : Keys) (laws : Laws valid) (i 
       let is = h.1 in
       let up = commit_next old.now next.now h.0 in
       record {
-        goes = goes_on old next old.begun goes kept (subst AreNamed (sym h.0.0) goes.named) is.committed is.begun (commit_key old.now next.now h.0) (commit_rp old.now next.now h.0)
+        goes = goes_on old next old.begun goes kept (subst AreNamed (sym h.0.0) goes.named) is.committed is.begun (commit_key old.now next.now h.0) (commit_rp_id old.now next.now h.0)
             (λ b there. (there, let below = goes.begun.given b there in omega arith));
         committed = is.committed;
         leads = commits valid public i old.now next.now goes.now kept h.0 old.begun next.begun old.second next.second s at is.second
@@ -276,7 +276,7 @@ module _ {S : Type 0} (valid : Validity) (public : Keys) (laws : Laws valid) (i 
       record {
         goes = goes_on old next old.begun goes kept
             (subst AreNamed (same_placed valid public laws.stored i mid next.now h.0.2 kept h.0.3) (subst AreNamed (sym h.0.1.0) goes.named)) is.committed is.begun
-            (h.0.3.key ∙ commit_key old.now mid h.0.1) (h.0.3.rp ∙ commit_rp old.now mid h.0.1)
+            (h.0.3.key ∙ commit_key old.now mid h.0.1) (h.0.3.rp_id ∙ commit_rp_id old.now mid h.0.1)
             (λ b there. (there, let below = goes.begun.given b there in omega arith));
         committed = is.committed;
         leads = after valid public i s [] [] (Stands mid mid.state.next old.begun old.second) (StandsNow next)
@@ -291,7 +291,7 @@ module _ {S : Type 0} (valid : Validity) (public : Keys) (laws : Laws valid) (i 
       let reserved = up_to valid public laws.stored i old.committed next.now goes.committed kept h.0 in
       record {
         goes = goes_on old next (handed_out old.committed old.begun) goes kept
-            (subst AreNamed (same_placed valid public laws.stored i old.committed next.now goes.committed kept h.0) goes.named_before) is.committed is.begun (h.0.key ∙ goes.key) (h.0.rp ∙ goes.rp)
+            (subst AreNamed (same_placed valid public laws.stored i old.committed next.now goes.committed kept h.0) goes.named_before) is.committed is.begun (h.0.key ∙ goes.key) (h.0.rp_id ∙ ap (λ (p : RelyingParty). p.rp_id) goes.rp)
             (λ b there. let is_among = handed old b there in (is_among.0, let below = is_among.1 in omega arith));
         committed = is.committed;
         leads = opens valid public laws.stored i old.committed next.now goes.committed kept h.0 (next_of old) old.begun next.begun old.second next.second s at (grind (arith, common_steps)) is.second

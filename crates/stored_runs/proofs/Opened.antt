@@ -7,6 +7,7 @@ use Rattle.std.specs.FinMap as finite
 use Rattle.sqlite_value.specs.Order.{Row, column}
 use Rattle.sqlite_trees.specs.Tree.{Trees}
 use Rattle.cose.specs.Schemes.{Validity}
+use Rattle.verification.specs.Records.{RelyingParty}
 use Rattle.site_rows.specs.Endings.{Endings, HoldsEndings, ending_row}
 use Rattle.site_rows.specs.Held.{rows_of}
 use Rattle.site_rows.specs.declared.ending.Ending.{Ending}
@@ -162,6 +163,19 @@ module _ {S : Type 0} (valid : Validity) (public : Keys) (laws : KeptLaws) (i : 
       → ((b : Begun) → Contains cs b → Contains bs b × (b.number < next)) → Leads valid public i t [] (Stands new new.state.next cs now)
   opens next bs cs second now t stands le same among =
       let up = up_to in
-      skips valid public i kept new next new.state.next bs cs second now t stands (omega arith) (let r = was.reserved in omega arith) is.rp is.policy (sym one.placed)
+      after valid public i t [] [] (Stands as_opened next bs second) (Stands new new.state.next cs now) (
+        u,
+        record { rp = refl; policy = refl; rows = stands.rows; next = stands.next; each = stands.each },
+        λ w at. happens valid public w i t world.Reopens u at
+            (record { rp_id = is.rp_id ∙ ap (λ (p : RelyingParty). p.rp_id) (sym stands.rp); rows = refl; sessions = refl }),
+      ) (λ v at.
+      skips valid public i as_opened new next new.state.next bs cs second now v at (omega arith) (let r = was.reserved in omega arith) refl refl (sym one.placed)
       (sym (one_ended kept.ended new.ended 8 kept.trees was.ended (subst (λ (db : Trees). HoldsEndings 8 new.ended db) is.trees are.ended)))
-      same (λ b there under. among b there)
+      same (λ b there under. among b there))
+    where
+      -- the kept site, of the relying party and the policy with which it is opened; and so a site of a run
+      as_opened : Kept S
+      as_opened = record kept { state = record kept.state { rp = new.state.rp; policy = new.state.policy } }
+
+      u : site.SiteState
+      u = record t { rp = new.state.rp; policy = new.state.policy }

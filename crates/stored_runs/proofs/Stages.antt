@@ -114,7 +114,7 @@ one_kept c ended next reserved mark is_pending is given below = record {
 
 -- it is opened again
 pub one_opened : (c : Credential) (ended : Endings) (next reserved mark : ℕ) → IsOpened (with_one c ended next reserved mark false) (with_one c ended reserved reserved mark false)
-one_opened c ended next reserved mark = record { trees = refl; rp = refl; policy = refl; key = refl; next = refl }
+one_opened c ended next reserved mark = record { trees = refl; rp_id = refl; key = refl; next = refl }
 
 pub put_again : (c d : Credential) → placed_of d ≡ finite.insert (placed_of c) 1 d
 put_again c d = same_map nat_cmp_total nat_cmp-IsAntisymmetric _ _ (λ q. grind (arith, gets, common_steps))

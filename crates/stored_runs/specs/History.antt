@@ -169,12 +169,11 @@ IsOwn k begun c = Unit {0}
 abbrev pub IsCommitted : {S : Type 0} → Kept S → Kept S → Type 0
 IsCommitted old new = Stays old new × NoneEnds old new × calls.IsCommit old.state new.state
 
--- an open finds a site in the trees of a kept one, of the same relying party and policy and under the same key; and the numbers go on
--- above all that may have been given
+-- an open finds a site in the trees of a kept one, for the same rp id and under the same key, whatever else its relying party and its policy
+-- are; and the numbers go on above all that may have been given
 pub record IsOpened {S : Type 0} (kept new : Kept S) : Type 0 where
   pub trees : new.trees ≡ kept.trees
-  pub rp : new.state.rp ≡ kept.state.rp
-  pub policy : new.state.policy ≡ kept.state.policy
+  pub rp_id : new.state.rp.rp_id ≡ kept.state.rp.rp_id
   pub key : new.state.key ≡ kept.state.key
   pub next : new.state.next ≡ new.state.reserved
 

@@ -6,5 +6,6 @@ mod making;
 
 pub use law::stored_runs;
 pub use making::{
-    abandon, delete, erase, finish_parts, finish_registration_parts, retire, retire_all,
+    abandon, begin_registration, begin_sign_in, commit, create, delete, erase, finish_parts,
+    finish_registration_parts, open, retire, retire_all,
 };

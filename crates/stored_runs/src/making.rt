@@ -1,18 +1,26 @@
 //! The calls of a site over a store, as calls of a history: whatever its trees hold before a call that is done, they hold after it what
 //! the history's call makes of that, where the disk gives back what was written. Each function makes the call, and nothing else.
 
-ghost use Rattle.std.specs.Prelude.{◌≡◌, IfOk, true};
+ghost use Rattle.std.specs.Prelude.{◌≡◌, IfOk, OnOk, map, option_map, true};
 ghost use Rattle.verification.specs.Views.{assertion_parts_view, registration_parts_view};
 ghost use Rattle.site_rows.specs.Endings.{Endings, HoldsEndings};
 ghost use Rattle.site_stored.specs.State.{ended_user_tree};
-ghost use Rattle.stored_runs.specs.Made.{Makes, nothing_valid};
+ghost use Rattle.site_seal.specs.Seal.{ordered};
+ghost use Rattle.site_state.specs.Sessions.{OpensRegistration, OpensSignIn};
+ghost use Rattle.stored_runs.specs.Made.{Makes, MakesBegun, MakesCommitted, MakesNew, MakesOpened, nothing_valid};
 ghost use Rattle.stored_runs.specs.History.{Abandons, Deletes, Erases, Registers, Retires, RetiresAll, SignsIn};
 
-use cose::Verifier;
-use site_state::Detail;
-use site_stored::{Failure, FinishFailure, Registered, SessionFailure, SignedIn, StoredSite};
+use cose::{Alg, Verifier};
+use site_state::{Asks, Detail};
+use site_stored::{
+    BeginFailure, Begun, Bounds, CreateFailure, Failure, FinishFailure, OpenFailure, Opening,
+    Registered, SessionFailure, SignedIn, StoredSite,
+};
 use sqlite_trees::store::Store;
-use verification::{AssertionParts, RegistrationParts, RegistrationRefusal, SignInRefusal};
+use std::alloc::Global;
+use verification::{
+    AssertionParts, Policy, RegistrationParts, RegistrationRefusal, RelyingParty, SignInRefusal,
+};
 
 /// Finishes a sign-in: in the session of the text, whose number is told.
 pub fn finish_parts<V: Verifier, S: Store>(
@@ -83,4 +91,67 @@ pub fn erase<S: Store>(site: &mut StoredSite<S>, user: &[u8], now: u64) -> Resul
     ensures { IfOk result (λ told. Makes S.Store.view nothing_valid site.old (λ ids. Erases user.now ids now) site.new) }
 {
     site.erase(user, now)
+}
+
+/// Begins a sign-in, and hands its text out.
+pub fn begin_sign_in<S: Store>(
+    site: &mut StoredSite<S>,
+    user: Option<&[u8]>,
+    allow: &[&[u8]],
+    uv: bool,
+    words: &[u8; 24],
+    now: u64,
+) -> Result<Begun, BeginFailure>
+    ensures { IfOk result (λ b. MakesBegun S.Store.view site.old (OpensSignIn (option_map (λ u. u.now) user.entry) (map (λ id. id.now) allow.now) uv words.now) now b site.new) }
+{
+    site.begin_sign_in(user, allow, uv, *words, now)
+}
+
+/// Begins a registration, and hands its text out.
+pub fn begin_registration<S: Store>(
+    site: &mut StoredSite<S>,
+    user: &[u8],
+    algorithms: &[Alg],
+    uv: bool,
+    asks: Asks,
+    words: &[u8; 24],
+    now: u64,
+) -> Result<Begun, BeginFailure>
+    ensures { IfOk result (λ b. MakesBegun S.Store.view site.old (OpensRegistration user.now (ordered algorithms.now) uv words.now asks) now b site.new) }
+{
+    site.begin_registration(user, algorithms, uv, asks, *words, now)
+}
+
+/// Commits what was called.
+pub fn commit<S: Store>(site: &mut StoredSite<S>) -> Result<(), Failure>
+    ensures { OnOk result (MakesCommitted S.Store.view site.old site.new) }
+{
+    site.commit()
+}
+
+/// Opens the site that a store holds.
+pub fn open<S: Store>(
+    alloc: Global,
+    opening: Opening,
+    life: u64,
+    store: S,
+) -> Result<StoredSite<S>, (OpenFailure, S)>
+    ensures { IfOk result (MakesOpened S.Store.view) }
+{
+    StoredSite::open(alloc, opening, life, store)
+}
+
+/// Makes a site, in a store whose trees are a new site's.
+pub fn create<S: Store>(
+    alloc: Global,
+    party: RelyingParty,
+    policy: Policy,
+    bounds: Bounds,
+    key: [u8; 32],
+    life: u64,
+    store: S,
+) -> Result<StoredSite<S>, (CreateFailure, S)>
+    ensures { IfOk result (MakesNew S.Store.view) }
+{
+    StoredSite::create(alloc, party, policy, bounds, key, life, store)
 }

@@ -1,5 +1,5 @@
 -- What is owed of `of_all_runs`.
-use Rattle.agreement.proofs.AllRuns.{of_all_runs}
+use Rattle.agreement.proofs.AllRuns.{forgeries_of_all_runs, of_all_runs}
 use Rattle.agreement.proofs.Began.{began}
 use Rattle.agreement.proofs.CallsActed.{calls_act}
 use Rattle.agreement.proofs.Dropped.{dropped_of_all_runs}
@@ -11,6 +11,9 @@ use Rattle.agreement.proofs.law.of_all_runs.Goals as goal
 
 pub returns-clause-agreement : goal.returns-clause-agreement
 returns-clause-agreement g c = λ verifier public. of_all_runs (g.V.Verifier.valid verifier) public (c.below.ensures verifier public)
+
+pub returns-clause-forgeries : goal.returns-clause-forgeries
+returns-clause-forgeries g c = λ verifier public. forgeries_of_all_runs (g.V.Verifier.valid verifier) public (c.below.ensures verifier public)
 
 pub returns-clause-ledger : goal.returns-clause-ledger
 returns-clause-ledger g c = λ verifier public. ledger (g.V.Verifier.valid verifier) public (c.below.ensures verifier public)

@@ -1,5 +1,5 @@
 -- What is owed of `StoredSite::create`.
-use Rattle.std.proofs.Common.{rules}
+use Rattle.std.proofs.Common.{rules, arith}
 use Rattle.std.specs.FinMap.{len-empty}
 use Rattle.std.specs.Ordering.{nat_cmp}
 use Rattle.verification.specs.Records.{Credential}
@@ -10,6 +10,7 @@ pub returns-in-Ok-clause-made : goal.returns-in-Ok-clause-made
 returns-in-Ok-clause-made g c = record {
   started = search rules;
   next = search rules;
+  given = search (rules, arith);
   held = λ clean. record {
     holds = c.in-Ok.ensures.held clean;
     count = len-empty nat_cmp Credential;

@@ -7,6 +7,7 @@ pub returns-in-Ok-clause-opened : goal.returns-in-Ok-clause-opened
 returns-in-Ok-clause-opened g c = record {
   started = search rules;
   next = search rules;
+  fits = c.in-Ok.ensures.limits.1;
   key = search rules;
   party = search rules;
   held = λ clean placed next h.
