@@ -31,6 +31,7 @@ pub mod OneStep
 pub mod Everything
 pub mod OneRun
 pub mod CallsActed
+pub mod Acted
 pub mod Rows
 pub mod Spans
 pub mod Deleted

@@ -13,5 +13,6 @@ pub mod Lived
 pub mod Hosts
 pub mod Shown
 pub mod Calls
+pub mod Acting
 pub mod Links
 pub mod Below

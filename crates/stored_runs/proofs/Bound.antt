@@ -31,7 +31,8 @@ use Rattle.site_state.specs.Sessions.{IsInput, Opening, OpensRegistration, Opens
 use Rattle.site_state.specs.declared.session.Asks.{Asks}
 use Rattle.std.specs.List.{list_any}
 use Rattle.agreement.specs.World.{words_of}
-use Rattle.stored_runs.specs.Made.{Makes, MakesBegun, MakesCommitted, MakesNew, MakesOpened, kept_as, nothing_valid}
+use Rattle.agreement.specs.Acting.{nothing_valid}
+use Rattle.stored_runs.specs.Made.{Makes, MakesBegun, MakesCommitted, MakesNew, MakesOpened, kept_as}
 use Rattle.stored_runs.specs.History.{Abandons, Deletes, Erases, IsKept, MayBegin, Registers, Retires, RetiresAll, SignsIn, ids_of, of_user}
 
 abbrev head_of : Row → List Row → Row

@@ -9,6 +9,7 @@ use Rattle.site_stored.specs.State.{HasKey, StoredState}
 use Rattle.site_stored.specs.declared.session.Begun as handed
 use Rattle.site_state.specs.Sessions.{Opening}
 use Rattle.std.specs.FinMap as finite
+use Rattle.agreement.specs.Acting.{nothing_valid}
 use Rattle.stored_runs.specs.History.{Begins, Call, Does, IsCommitted, IsKept, IsOpened, Kept, begun_at}
 
 -- a site, with the credentials and the sessions that have ended by its trees
@@ -22,10 +23,6 @@ Makes {S} {A} view valid old calls new =
     IsClean (view new.store) → (placed : Placed) (ended : Endings) → IsKept (kept_as view old placed ended)
     → (a : A) × (after : Placed) × (left : Endings)
     × (IsKept (kept_as view new after left) × IsOneSite old new × Does valid (kept_as view old placed ended) (calls a) (kept_as view new after left))
-
--- of a call that verifies nothing: no signature need be valid
-abbrev pub nothing_valid : Validity
-nothing_valid key message signature = ⊥
 
 -- a session begins, and its text is handed out
 abbrev pub MakesBegun : {S : Type 0} → (S → View) → StoredState S → Opening → ℕ → handed.Begun → StoredState S → Type 0

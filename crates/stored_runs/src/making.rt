@@ -7,7 +7,8 @@ ghost use Rattle.site_rows.specs.Endings.{Endings, HoldsEndings};
 ghost use Rattle.site_stored.specs.State.{ended_user_tree};
 ghost use Rattle.site_seal.specs.Seal.{ordered};
 ghost use Rattle.site_state.specs.Sessions.{OpensRegistration, OpensSignIn};
-ghost use Rattle.stored_runs.specs.Made.{Makes, MakesBegun, MakesCommitted, MakesNew, MakesOpened, nothing_valid};
+ghost use Rattle.stored_runs.specs.Made.{Makes, MakesBegun, MakesCommitted, MakesNew, MakesOpened};
+ghost use Rattle.agreement.specs.Acting.{nothing_valid};
 ghost use Rattle.stored_runs.specs.History.{Abandons, Deletes, Erases, Registers, Retires, RetiresAll, SignsIn};
 
 use cose::{Alg, Verifier};
