@@ -7,7 +7,9 @@ from pathlib import Path
 HEAD = "<!-- ./dev pages writes this page from the sources. -->\n"
 MODULES = {
     "garvoeng": ("server", "keeping", "memory", "stored", "records", "errors", "library", "limits"),
-    "garvoeng.sql": ("sql", "sql_rows"), "garvoeng.flask": ("flask",), "garvoeng.django": ("django/__init__", "django/backends", "django/models"),
+    "garvoeng.sql": ("sql", "sql_rows"), "garvoeng.web": ("web/__init__", "web/accounts", "web/stores", "web/requests", "web/models"),
+    "garvoeng.flask": ("flask",), "garvoeng.starlette": ("starlette",), "garvoeng.aiohttp": ("aiohttp",),
+    "garvoeng.django": ("django/__init__", "django/accounts", "django/visitors", "django/backends", "django/models", "django/rest"),
     "garvoeng.client": ("client", "client_program", "hid"), "garvoeng.explain": ("explain",), "garvoeng.forms": ("forms",), "garvoeng.move": ("move",), "garvoeng.signatures": ("signatures",),
 }
 

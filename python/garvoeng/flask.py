@@ -1,194 +1,153 @@
-"""Passkeys for a site in Flask: a blueprint with a page, and what it asks.
+"""Passkeys for a site in Flask: a blueprint with a page, and what it asks (`garvoeng.web`).
 
     app.register_blueprint(passkeys(server), url_prefix="/passkeys")
 
-`signed_in()` is the visitor's user handle then, or None.
+`signed_in()` is the visitor's user handle then, or None, and `fresh(300)` whether he signed in within five minutes. A site with
+Flask-Login hands in `accounts=LoginAccounts(..)`.
 """
 from __future__ import annotations
 
-import secrets
-from typing import Any, Optional, Tuple, Union
+import time
+from importlib import import_module
+from typing import Any, Callable, Mapping, Optional
 
-from flask import Blueprint, Response, after_this_request, current_app, g, jsonify, request
+from flask import Blueprint, Response, after_this_request, current_app, g, request, session
 
-from . import pages
-from .errors import BadInput, Refused, RowDamaged, SessionDamaged
-from .forms import to_text
-from .sql import SIGNED_IN, KeptSignIn, SqlServer
+from .web import PATHS, Accounts, Denied, Passkeys, Request, Visitor
 
-_SIGNED_IN, _REGISTRATION, _SIGN_IN = _COOKIES = "garvoeng", "garvoeng_registration", "garvoeng_sign_in"
-
-Answered = Union[Response, Tuple[Response, int]]
+_AT, _BY = "garvoeng_signed_in_at", "garvoeng_by_passkey"
 
 
-class _Visitor:
-    """The cookies of whoever asks. Each has a number of the server's rows, which only this visitor has."""
+def _read(most: int) -> bytes:
+    # Of a body without a length no more is read than a request may have, unless the site has read it before.
+    return request.get_data() if request.content_length is not None else request.stream.read(most) or request.get_data()
 
-    def __init__(self, server: SqlServer) -> None:
-        self.server = server
-        # A browser takes __Host- from this very host alone, by https.
-        self.is_secure = any(origin.startswith("https://") for origin in server.server.origins)
 
-    def _name(self, cookie: str) -> str:
-        return f"__Host-{cookie}" if self.is_secure else cookie
+def _asked(path: str = "") -> Request:
+    return Request(request.method, path, request.headers, request.cookies, _read, request.remote_addr, request)
 
-    def number(self, cookie: str) -> Optional[str]:
-        return request.cookies.get(self._name(cookie))
 
-    def keep(self, cookie: str, number: str) -> None:
+def _core() -> Passkeys:
+    core: Optional[Passkeys] = current_app.extensions.get("garvoeng")
+    if core is None:
+        raise RuntimeError("no blueprint of garvoeng.flask is registered: app.register_blueprint(passkeys(server), url_prefix=..)")
+    return core
+
+
+def visitor() -> Optional[Visitor]:
+    """Who is signed in, or None: where nobody signed in, or has signed out, and where the passkey was retired or deleted since. It is looked
+    up once for a request."""
+    if "garvoeng_visitor" not in g:
+        g.garvoeng_visitor = _core().visitor(_asked())
+
         @after_this_request
-        def kept(response: Response) -> Response:
-            response.set_cookie(self._name(cookie), number, secure=self.is_secure, httponly=True, samesite="Lax")
+        def varied(response: Response) -> Response:
+            response.vary.add("Cookie")
             return response
-
-    def end(self, cookie: str) -> None:
-        """What the cookie names ends."""
-        if self.number(cookie) is not None:
-            self.server.abandon(self.number(cookie))
-
-    def drop(self, cookie: str) -> None:
-        @after_this_request
-        def dropped(response: Response) -> Response:
-            response.delete_cookie(self._name(cookie), secure=self.is_secure, httponly=True, samesite="Lax")
-            return response
-
-    def signed_in(self) -> Optional[KeptSignIn]:
-        """Looked up once for a request."""
-        if "garvoeng_signed_in" not in g:
-            number = self.number(_SIGNED_IN)
-            g.garvoeng_signed_in = None if number is None else self.server.signed_in(number)
-
-            @after_this_request
-            def varied(response: Response) -> Response:
-                response.vary.add("Cookie")
-                return response
-        found: Optional[KeptSignIn] = g.garvoeng_signed_in
-        return found
+    found: Optional[Visitor] = g.garvoeng_visitor
+    return found
 
 
 def signed_in() -> Optional[bytes]:
-    """The user handle of the visitor, or None: where nobody signed in, or has signed out, and where the passkey was retired or deleted
-    since."""
-    visitor = current_app.extensions.get("garvoeng")
-    if visitor is None:
-        raise RuntimeError("no blueprint of garvoeng.flask is registered: app.register_blueprint(passkeys(server), url_prefix=..)")
-    kept = visitor.signed_in()
-    return None if kept is None else kept.user
+    """The user handle of the visitor, or None."""
+    found = visitor()
+    return None if found is None else found.user
 
 
-def _said() -> Any:
-    pages.check_head(request.headers.get("Content-Type", ""), request.content_length)
-    if request.content_length is not None:
-        return pages.object_in(request.get_data())
-    # Of a body without a length no more is read than a request may have, unless the site has read it before.
-    return pages.object_in(request.stream.read(pages.MAX_BODY + 1) or request.get_data())
+def fresh(seconds: float) -> bool:
+    """Whether the visitor signed in at most so many seconds ago: what is asked before an act of weight. Else the page calls
+    `passkeys.signIn({ again: true })`."""
+    found = visitor()
+    return found is not None and found.is_fresh(seconds)
 
 
-def passkeys(server: SqlServer, name: str = "passkeys", *, fresh: int = pages.FRESH, signed_in_for: int = SIGNED_IN,
-             rate_limit: Union[pages.Limit, bool, None] = None) -> Blueprint:
-    """The blueprint, one to an application: a page at its root, `passkeys.js` for pages of the site, and `register/begin`,
-    `register/finish`, `sign-in/begin`, `sign-in/finish`, `list`, `retire` and `sign-out`. Who registers is a new account, and one who is
-    signed in, for `fresh` seconds at most, gets one more passkey. A refusal is answered by 403, what is no input by 400, what wants an
-    account or a fresher sign-in by 401, and a damaged row by 500.
+def end() -> None:
+    """Ends the visitor's sign-in: for a sign-out of the site's own, but of Flask-Login's, which does so."""
+    _core().end(_asked())
+    g.pop("garvoeng_visitor", None)
 
-    A sign-in ends after `signed_in_for` seconds, by `sign-out`, and where its passkey is retired or deleted. Its cookie is HttpOnly and
-    SameSite=Lax, and where an origin of the server is https also Secure, with `__Host-` before its name.
 
-    An address that posts too often is answered by 429, with Retry-After: by a `RateLimit()` if not said, never where `rate_limit` is
-    False. Behind a proxy the address is that of `X-Forwarded-For` where the site has werkzeug's `ProxyFix`.
-    """
-    blueprint, visitor, limit = Blueprint(name, __name__), _Visitor(server), pages.limit_of(rate_limit)
+def passkeys(server: Any, name: str = "passkeys", *, accounts: Any = None, **how: Any) -> Blueprint:
+    """The blueprint, one to an application: the acts of `garvoeng.web` at its root, `passkeys.page`, `passkeys.list` and so on to `url_for`.
+    `how` is as in `garvoeng.web.Passkeys`: `fresh`, `signed_in_for`, `rate_limit`, `registration` .. Behind a proxy the visitor's address
+    is that of `X-Forwarded-For` where the site has werkzeug's `ProxyFix`."""
+    core, blueprint = Passkeys(server, accounts, **how), Blueprint(name, __name__)
 
     @blueprint.record_once
     def recorded(state: Any) -> None:
-        if state.app.extensions.setdefault("garvoeng", visitor) is not visitor:
+        if state.app.extensions.setdefault("garvoeng", core) is not core:
             raise RuntimeError("an application has one blueprint of garvoeng.flask")
 
-    @blueprint.before_request
-    def limited() -> Optional[Answered]:
-        wait = pages.wait_of(limit, request.remote_addr) if request.method == "POST" else 0
-        if wait == 0:
-            return None
-        response = jsonify(error=pages.TOO_OFTEN)
-        response.headers["Retry-After"] = str(wait)
-        return response, 429
+    def answered(path: str) -> Response:
+        answer = core.answer(_asked(path))
+        g.pop("garvoeng_visitor", None)
+        return Response(answer.body, answer.status, answer.lines())
 
-    def nobody(text: str = "nobody is signed in") -> Answered:
-        return jsonify(error=text), 401
+    for path, method in PATHS.items():
+        endpoint = path.replace("/", "_").replace("-", "_").replace(".", "_") or "page"
+        blueprint.add_url_rule(f"/{path}", endpoint, answered, defaults={"path": path}, methods=[method])
 
-    def signs_in(user: bytes, credential: bytes) -> None:
-        visitor.end(_SIGNED_IN)
-        visitor.keep(_SIGNED_IN, server.keep_sign_in(user, credential, lifetime=signed_in_for))
+    @blueprint.get("/token")
+    def token() -> "dict[str, str]":
+        """What Flask-WTF wants of a post, where the site has it."""
+        if "csrf" not in current_app.extensions:
+            return {}
+        return {"header": "X-CSRFToken", "token": import_module("flask_wtf.csrf").generate_csrf()}
 
-    @blueprint.get("/")
-    @blueprint.get("/<any('passkeys.js', 'page.js'):path>")
-    def page(path: str = "") -> Response:
-        return Response(pages.file(path), mimetype=pages.FILES[path][1])
-
-    @blueprint.post("/register/begin")
-    def register_begin() -> Answered:
-        account, kept = pages.name_in(_said()), visitor.signed_in()
-        if kept is None:
-            options, number = server.register_begin(secrets.token_bytes(32), account)
-        elif server.signed_in(kept.number, fresh=fresh) is None:
-            return nobody(pages.SIGN_IN_AGAIN)
-        else:
-            options, number = server.register_begin(kept.user, account, sign_in=kept.number)
-        visitor.keep(_REGISTRATION, number)
-        return jsonify(options)
-
-    @blueprint.post("/register/finish")
-    def register_finish() -> Answered:
-        said, kept = _said(), visitor.signed_in()
-        made = server.register_complete(visitor.number(_REGISTRATION), said, sign_in=None if kept is None else kept.number).credential
-        visitor.drop(_REGISTRATION)
-        if kept is None:
-            signs_in(made.user, made.id)
-        return jsonify(id=to_text(made.id))
-
-    @blueprint.post("/sign-in/begin")
-    def sign_in_begin() -> Answered:
-        _said()
-        options, number = server.authenticate_begin()
-        visitor.keep(_SIGN_IN, number)
-        return jsonify(options)
-
-    @blueprint.post("/sign-in/finish")
-    def sign_in_finish() -> Answered:
-        who = server.authenticate_complete(visitor.number(_SIGN_IN), _said()).credential
-        visitor.drop(_SIGN_IN)
-        signs_in(who.user, who.id)
-        return jsonify(user=to_text(who.user))
-
-    @blueprint.get("/list")
-    def listed() -> Answered:
-        user = signed_in()
-        return nobody() if user is None else jsonify([{"id": to_text(row.id), "retired": row.retired} for row in server.rows(user)])
-
-    @blueprint.post("/retire")
-    def retire() -> Answered:
-        user = signed_in()
-        return nobody() if user is None else jsonify(retired=server.retire(pages.id_in(_said()), user=user))
-
-    @blueprint.post("/sign-out")
-    def sign_out() -> Answered:
-        _said()
-        for cookie in _COOKIES:
-            visitor.end(cookie)
-            visitor.drop(cookie)
-        return jsonify({})
-
-    @blueprint.errorhandler(Refused)
-    def refused(error: Refused) -> Answered:
-        return jsonify(error=str(error), refusal=error.name), 403
-
-    @blueprint.errorhandler(BadInput)
-    def bad_input(error: BadInput) -> Answered:
-        return jsonify(error=str(error)), 400
-
-    @blueprint.errorhandler(RowDamaged)
-    @blueprint.errorhandler(SessionDamaged)
-    def damaged(error: Exception) -> Answered:
-        return jsonify(error=pages.DAMAGED), 500
-
+    if isinstance(accounts, LoginAccounts):
+        blueprint.record_once(accounts.watch)
     return blueprint
+
+
+def _login() -> Any:
+    return import_module("flask_login")
+
+
+class LoginAccounts(Accounts):
+    """The users of Flask-Login. `handle_of(user)` gives the user handle that the site keeps with a user, 32 random bytes or so, and
+    `user_by(handle)` the user of one, or None. `make(name, handle)` makes a user, where a passkey may make one, and raises `Denied` where
+    the name is taken. `name_of(user)` is what a browser shows.
+
+    A user who signed in by a passkey is logged out where it is retired or deleted."""
+
+    def __init__(self, handle_of: Callable[[Any], bytes], user_by: Callable[[bytes], Any],
+                 make: Optional[Callable[[str, bytes], None]] = None, name_of: Callable[[Any], str] = str) -> None:
+        self.handle_of, self.user_by, self.name_of = handle_of, user_by, name_of
+        if make is not None:
+            setattr(self, "create", lambda request, name, user: make(name, user))
+
+    def watch(self, state: Any) -> None:
+        _login().user_logged_in.connect(self._logged_in, state.app)
+        _login().user_logged_out.connect(self._logged_out, state.app)
+        state.app.before_request(self._ends)
+
+    def _logged_in(self, app: Any, **_: Any) -> None:
+        end()
+        session[_AT] = int(time.time())
+        session.pop(_BY, None)
+
+    def _logged_out(self, app: Any, **_: Any) -> None:
+        end()
+        session.pop(_AT, None)
+        session.pop(_BY, None)
+
+    def _ends(self) -> None:
+        """Logs out whose passkey is retired or deleted, or whose sign-in was ended."""
+        if session.get(_BY):
+            found = visitor()
+            if found is None or found.credential is None:
+                _login().logout_user()
+
+    def user_of(self, request: Any) -> Optional[Visitor]:
+        user = _login().current_user
+        return Visitor(self.handle_of(user), self.name_of(user), session.get(_AT)) if user.is_authenticated else None
+
+    def signed_in(self, request: Any, user: bytes, accepted: Any) -> Optional[Mapping[str, Any]]:
+        found = self.user_by(user)
+        if found is None or not _login().login_user(found):
+            raise Denied("the account may not sign in")
+        session[_BY] = True
+        return None
+
+    def signed_out(self, request: Any) -> None:
+        _login().logout_user()

@@ -2,6 +2,7 @@
 from __future__ import annotations
 
 import json
+import logging
 import os
 import re
 import time
@@ -20,6 +21,7 @@ LIFETIME = 300
 """How many seconds a session stays open, if not said."""
 
 Session = TypeVar("Session", RegistrationSession, SignInSession)
+_log = logging.getLogger("garvoeng")
 _NUMBER = re.compile(r"[0-9a-f]{32}")
 
 
@@ -27,6 +29,14 @@ class PasskeyServer(Protocol):
     """What `KeepingServer`, `SqlServer` and `StoredServer` have in common. A site that is written for it changes its storage by the line
     that makes the server. `session` is a text that only its visitor may have, or None: of another text none is open, and another kind of
     value is TypeError."""
+
+    @property
+    def origins(self) -> Tuple[str, ...]:
+        """The origins of the site's pages."""
+
+    @property
+    def top_origins(self) -> Tuple[str, ...]:
+        """The origins of the pages that may have the site's in a frame."""
 
     def register_begin(self, user: bytes, user_name: str, display_name: Optional[str] = None, *, exclude: Optional[Ids] = None,
                        user_verification: Requirement = False, resident_key: Requirement = True,
@@ -145,6 +155,14 @@ class KeepingServer:
         self.store = store
         self.lifetime = limits.check_lifetime(lifetime)
 
+    @property
+    def origins(self) -> Tuple[str, ...]:
+        return self.server.origins
+
+    @property
+    def top_origins(self) -> Tuple[str, ...]:
+        return self.server.top_origins
+
     # ---- sessions
 
     def _begun(self, kind: str, session: Union[RegistrationSession, SignInSession]) -> str:
@@ -166,7 +184,9 @@ class KeepingServer:
         try:
             return open_session(read, found.data)
         except BadInput as error:
-            raise SessionDamaged(number, str(error)) from None
+            damaged = SessionDamaged(number, str(error))
+            _log.error("%s", damaged)
+            raise damaged from None
 
     # ---- what the store answers
 

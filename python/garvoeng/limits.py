@@ -144,11 +144,11 @@ def check_key(algorithm: int, x: bytes, y: bytes) -> None:
         raise BadInput("the key is out of its limits: x and y have 32 bytes of ES256, 32 and none of EdDSA, 256, 384 or 512 and 1 to 4 of RS256")
 
 
-def check_lifetime(seconds: Any) -> int:
+def check_lifetime(seconds: Any, what: str = "lifetime") -> int:
     if not isinstance(seconds, int) or isinstance(seconds, bool):
-        raise TypeError(f"lifetime is a whole number of seconds, and not {kind_of(seconds)}")
+        raise TypeError(f"{what} is a whole number of seconds, and not {kind_of(seconds)}")
     if seconds < 1:
-        raise BadInput(f"lifetime is 1 second or more, and not {seconds}")
+        raise BadInput(f"{what} is 1 second or more, and not {seconds}")
     return seconds
 
 

@@ -1,19 +1,29 @@
-// The page of passkeys.html.
+// The page of passkeys.html, whose elements have its words.
 const element = (id) => document.getElementById(id);
+const words = element("passkeys").dataset;
+
+function button(text, act) {
+  const made = document.createElement("button");
+  made.textContent = text;
+  made.onclick = act;
+  return made;
+}
+
+// A passkey's line: what it is called, by its account or by its maker, and when it was made and used.
+function lineOf({ id, name, model, created, used, retired }) {
+  const line = document.createElement("li"), when = [created, used].filter((time) => time).map((time) => new Date(time * 1000).toLocaleString());
+  line.textContent = `${[name ?? model ?? `${id.slice(0, 12)}…`, ...when].join(", ")} ${retired ? words.retired : ""} `;
+  if (!retired) {
+    const called = document.createElement("input");
+    called.value = name ?? "";
+    line.append(called, button(words.rename, act(words.renamed, () => passkeys.rename(id, called.value))),
+      button(words.retire, act(words.retired, () => passkeys.retire(id))));
+  }
+  return line;
+}
 
 async function show() {
-  const listed = await passkeys.list().catch(() => []);
-  element("passkeys").replaceChildren(...listed.map(({ id, retired }) => {
-    const line = document.createElement("li");
-    line.textContent = `${id.slice(0, 12)}… ${retired ? "retired" : ""}`;
-    if (!retired) {
-      const button = document.createElement("button");
-      button.textContent = "Retire";
-      button.onclick = act("retired", () => passkeys.retire(id));
-      line.append(button);
-    }
-    return line;
-  }));
+  element("passkeys").replaceChildren(...(await passkeys.list().catch(() => [])).map(lineOf));
 }
 
 function act(done, call) {
@@ -28,7 +38,6 @@ function act(done, call) {
   };
 }
 
-element("register").onclick = act("registered", () => passkeys.register(element("name").value));
-element("sign-in").onclick = act("signed in", () => passkeys.signIn());
-element("sign-out").onclick = act("signed out", () => passkeys.signOut());
+for (const [id, call] of [["register", () => passkeys.register(element("name").value)], ["sign-in", () => passkeys.signIn()], ["sign-out", () => passkeys.signOut()]])
+  element(id).onclick = act(element(id).dataset.done, call);
 show();

@@ -1,8 +1,6 @@
-"""What `garvoeng.flask` and `garvoeng.django` have in common: files for the browser, and what a visitor sends."""
+"""Files for the browser, limits, and what a visitor sends, of `garvoeng.web`."""
 from __future__ import annotations
 
-import json
-import re
 from pathlib import Path
 from typing import Any, Callable, Dict, Optional, Union
 
@@ -20,8 +18,10 @@ FRESH = 300
 SIGN_IN_AGAIN = "sign in again: a passkey is added right after a sign-in"
 DAMAGED = "what is stored is damaged"
 TOO_OFTEN = "too many requests: try again later"
+TRY_AGAIN = "the site's storage did not answer: try again"
 MAX_NAME = 64
 """The most characters of an account's name."""
+_JOINERS = {0x200C: None, 0x200D: None}
 FILES = {"": ("passkeys.html", "text/html"), "passkeys.js": ("passkeys.js", "text/javascript"), "page.js": ("page.js", "text/javascript")}
 """The files and their types, by their paths."""
 
@@ -49,34 +49,10 @@ def file(path: str) -> bytes:
     return Path(__file__).with_name(FILES[path][0]).read_bytes()
 
 
-def check_head(content_type: str, length: Any) -> None:
-    """What is asked of a request before its body is read; `length` is its Content-Length, if it has one. Only JSON is taken: a form of
-    another site can't send it."""
-    if content_type.split(";")[0].strip().lower() != "application/json":
-        raise BadInput("the body is not application/json")
-    if length and not re.fullmatch("[0-9]{1,18}", str(length)):
-        raise BadInput("Content-Length is not a number")
-    if int(length or 0) > MAX_BODY:
-        raise BadInput("the body is too long")
-
-
-def object_in(body: bytes) -> Dict[str, Any]:
-    """A request's JSON object."""
-    if len(body) > MAX_BODY:
-        raise BadInput("the body is too long")
-    try:
-        value = json.loads(body)
-    except (ValueError, RecursionError):
-        value = None
-    if not isinstance(value, dict):
-        raise BadInput("the body is no JSON object")
-    return value
-
-
 def name_in(said: Dict[str, Any]) -> str:
-    """An account's name: 1 to 64 characters that can be printed."""
+    """An account's or a passkey's name: 1 to 64 characters that can be printed, or join those around them."""
     name = said.get("name")
-    if not isinstance(name, str) or not 1 <= len(name) <= MAX_NAME or not name.isprintable():
+    if not isinstance(name, str) or not 1 <= len(name) <= MAX_NAME or not name.translate(_JOINERS) or not name.translate(_JOINERS).isprintable():
         raise BadInput(f"a name has 1 to {MAX_NAME} characters that can be printed")
     return name
 

@@ -1,28 +1,41 @@
-// The browser's side of `garvoeng.flask` and `garvoeng.django`: passkeys.register(name), passkeys.signIn(), passkeys.list(),
-// passkeys.retire(id) and passkeys.signOut(). Each gives what the site answered, and throws an Error with its text.
+// The browser's side of `garvoeng.web`: passkeys.register(name), passkeys.signIn(), passkeys.list(), passkeys.rename(id, name),
+// passkeys.retire(id) and passkeys.signOut(). Each gives what the site answered, and throws an Error with its text. Who is signed in does so
+// afresh by signIn({ again: true }); register(name, { fields }) hands on what a new user of Django has to have.
 const passkeys = (() => {
   const base = new URL(".", document.currentScript.src);
+  let hasToken = true;
 
-  async function asked(path, body) {
-    const token = document.cookie.match(/(?:^|; )csrftoken=([^;]+)/);
-    const headers = { "Content-Type": "application/json", ...(token ? { "X-CSRFToken": token[1] } : {}) };
-    const answer = await fetch(new URL(path, base), body === undefined ? {} : { method: "POST", headers, body: JSON.stringify(body) });
-    const said = await answer.json().catch(() => ({ error: answer.statusText }));
-    if (!answer.ok) throw new Error(said.error);
-    return said;
+  async function said(answer) {
+    const value = await answer.json().catch(() => ({ error: answer.statusText || `the site answered ${answer.status}` }));
+    if (!answer.ok) throw new Error(value.error);
+    return value;
+  }
+
+  // What the site's framework asks of each post; a sign-in changes it.
+  async function token() {
+    if (!hasToken) return {};
+    const { header, token } = await fetch(new URL("token", base)).then((answer) => (answer.ok ? answer.json() : {}));
+    hasToken = header !== undefined;
+    return hasToken ? { [header]: token } : {};
+  }
+
+  async function posted(path, body) {
+    const headers = { "Content-Type": "application/json", ...(await token()) };
+    return said(await fetch(new URL(path, base), { method: "POST", headers, body: JSON.stringify(body) }));
   }
 
   return {
-    async register(name) {
-      const options = PublicKeyCredential.parseCreationOptionsFromJSON(await asked("register/begin", { name }));
-      return asked("register/finish", (await navigator.credentials.create({ publicKey: options })).toJSON());
+    async register(name, more = {}) {
+      const options = PublicKeyCredential.parseCreationOptionsFromJSON(await posted("register/begin", { name, ...more }));
+      return posted("register/finish", (await navigator.credentials.create({ publicKey: options })).toJSON());
     },
-    async signIn() {
-      const options = PublicKeyCredential.parseRequestOptionsFromJSON(await asked("sign-in/begin", {}));
-      return asked("sign-in/finish", (await navigator.credentials.get({ publicKey: options })).toJSON());
+    async signIn(more = {}) {
+      const options = PublicKeyCredential.parseRequestOptionsFromJSON(await posted("sign-in/begin", more));
+      return posted("sign-in/finish", (await navigator.credentials.get({ publicKey: options })).toJSON());
     },
-    list: () => asked("list"),
-    retire: (id) => asked("retire", { id }),
-    signOut: () => asked("sign-out", {}),
+    list: async () => said(await fetch(new URL("list", base))),
+    rename: (id, name) => posted("rename", { id, name }),
+    retire: (id) => posted("retire", { id }),
+    signOut: () => posted("sign-out", {}),
   };
 })();

@@ -62,6 +62,14 @@ class SqlServer:
         self._on_registered, self._on_signed_in, self._on_erased = on_registered, on_signed_in, on_erased
         self._is_sqlite: Optional[bool] = None
 
+    @property
+    def origins(self) -> Tuple[str, ...]:
+        return self.server.origins
+
+    @property
+    def top_origins(self) -> Tuple[str, ...]:
+        return self.server.top_origins
+
     @contextmanager
     def transaction(self, *, writes: bool = True) -> Iterator[Rows]:
         """The rows, in a transaction: it commits at the end, and rolls back at an exception. One that only reads waits for nobody."""
@@ -71,8 +79,8 @@ class SqlServer:
             with sql_connections.transaction(connection, self._is_sqlite, writes) as cursor:
                 yield Rows(cursor, self._is_sqlite, "?" if self._is_sqlite else "%s")
 
-    def _within(self, work: Callable[[Rows], Answered], *, writes: bool = True) -> Answered:
-        """What `work` gives of the rows, in a transaction, which is made again where another one was in its way."""
+    def within(self, work: Callable[[Rows], Answered], *, writes: bool = True) -> Answered:
+        """What `work(rows)` gives, in a transaction, which is made again where another one was in its way."""
         for tried in range(1, self.tries + 1):
             try:
                 with self.transaction(writes=writes) as rows:
@@ -96,7 +104,7 @@ class SqlServer:
     def prepare(self) -> None:
         """Makes the tables, or brings those of an older version up to this one. Any number of processes may call it at once. Raises
         `BadInput` where they are of a later version."""
-        self._within(Rows.prepare)
+        self.within(Rows.prepare)
 
     # ---- registration
 
@@ -115,7 +123,7 @@ class SqlServer:
             made, session = self.server.register_begin(handle, user_name, display_name, exclude=listed, **how)
             return made, rows.begin(session, self.lifetime, sign_in)
 
-        return self._within(begin)
+        return self.within(begin)
 
     async def register_begin_async(self, user: bytes, user_name: str, display_name: Optional[str] = None,
                                    **how: Any) -> Tuple[Dict[str, Any], str]:
@@ -133,7 +141,7 @@ class SqlServer:
             self._tell("on_registered", self._on_registered, rows, made)
             return made
 
-        return self._within(complete)
+        return self.within(complete)
 
     async def register_complete_async(self, session: Optional[str], response: Mapping[str, Any], *,
                                       sign_in: Optional[str] = None) -> Registered:
@@ -153,7 +161,7 @@ class SqlServer:
             made, session = self.server.authenticate_begin(user=handle, allow=options.allowed(own) if allow is None else allow, **how)
             return made, rows.begin(session, self.lifetime)
 
-        return self._within(begin)
+        return self.within(begin)
 
     async def authenticate_begin_async(self, *, user: Optional[bytes] = None, **how: Any) -> Tuple[Dict[str, Any], str]:
         """The same, awaited as `register_begin_async`."""
@@ -170,7 +178,7 @@ class SqlServer:
             self._tell("on_signed_in", self._on_signed_in, rows, signed_in)
             return signed_in
 
-        return self._within(complete)
+        return self.within(complete)
 
     async def authenticate_complete_async(self, session: Optional[str], response: Mapping[str, Any]) -> SignedIn:
         """The same, awaited as `register_complete_async`."""
@@ -182,11 +190,11 @@ class SqlServer:
         """Keeps that a visitor is signed in as this user, by this passkey or, where it is None, by other means: the number that a cookie
         has, 32 hex digits. It ends after `lifetime` seconds, by `abandon`, where the passkey is retired or deleted, and with the account."""
         identity, handle = None if credential is None else limits.check_id(credential, "credential"), limits.check_user(user)
-        return self._within(lambda rows: rows.keep_sign_in(handle, identity, lifetime))
+        return self.within(lambda rows: rows.keep_sign_in(handle, identity, lifetime))
 
     def signed_in(self, number: Optional[str], *, fresh: Optional[int] = None) -> Optional[KeptSignIn]:
         """Who is signed in by this number, or None; with `fresh`, if it is at most so many seconds ago."""
-        return self._within(lambda rows: rows.signed_in(number, fresh), writes=False)
+        return self.within(lambda rows: rows.signed_in(number, fresh), writes=False)
 
     # ---- sessions and credentials
 
@@ -194,11 +202,11 @@ class SqlServer:
         """The credentials of a user, or all, retired ones too, in order of registration. A row that is damaged is left out, and
         logged."""
         handle = None if user is None else limits.check_user(user)
-        return self._within(lambda rows: rows.credentials(handle), writes=False)
+        return self.within(lambda rows: rows.credentials(handle), writes=False)
 
     def add(self, credential: Credential, *, backed_up: Optional[bool] = None, aaguid: Optional[bytes] = None) -> None:
         """Stores a credential of another library (docs/COMING.md). Raises `Refused`, G15, where its id is registered."""
-        self._within(lambda rows: rows.add(credential, backed_up, aaguid))
+        self.within(lambda rows: rows.add(credential, backed_up, aaguid))
 
     def retire(self, credential: bytes, *, user: Optional[bytes] = None) -> bool:
         """A credential signs in no more, and its id stays taken; whether it did until now. The user's open registrations end. With `user`
@@ -208,7 +216,7 @@ class SqlServer:
     def retire_all(self, user: bytes) -> int:
         """A user's credentials sign in no more, and his open registrations end; how many did until now."""
         handle = limits.check_user(user)
-        return self._within(lambda rows: rows.retire_all(handle))
+        return self.within(lambda rows: rows.retire_all(handle))
 
     def delete(self, credential: bytes, *, user: Optional[bytes] = None) -> bool:
         """A credential is forgotten, and its id may be registered again, by anybody; whether it was there. The user's open registrations
@@ -217,7 +225,7 @@ class SqlServer:
 
     def _changed(self, change: Callable[[Rows, bytes, Optional[bytes]], bool], credential: bytes, user: Optional[bytes]) -> bool:
         identity, handle = limits.check_id(credential, "credential"), None if user is None else limits.check_user(user)
-        return self._within(lambda rows: change(rows, identity, handle))
+        return self.within(lambda rows: change(rows, identity, handle))
 
     def erase(self, user: bytes) -> int:
         """A user's credentials are forgotten; how many they were. The user's open sessions end, and who is signed in is so no more."""
@@ -228,9 +236,9 @@ class SqlServer:
             self._tell("on_erased", self._on_erased, rows, handle)
             return erased
 
-        return self._within(erase)
+        return self.within(erase)
 
     def abandon(self, session: Optional[str]) -> bool:
         """A session ends, or what `keep_sign_in` kept; whether it was there."""
         number = limits.check_session(session)
-        return self._within(lambda rows: rows.end(number))
+        return self.within(lambda rows: rows.end(number))

@@ -31,6 +31,7 @@ _KINDS = {RegistrationSession: "algorithms", SignInSession: "allow"}
 """The member that only a session of this kind has."""
 _SIGNED_IN = "signed_in"
 """That of a sign-in that is kept."""
+_NAMES, _SECRET, _NEVER = "names", "secret", 2**53
 _log = logging.getLogger("garvoeng")
 
 
@@ -90,6 +91,11 @@ def _members(data: Any) -> Dict[str, Any]:
     except (TypeError, ValueError, RecursionError):
         return {}
     return found if isinstance(found, dict) else {}
+
+
+def _names_of(user: bytes) -> str:
+    """The id of the row of what a user calls his passkeys."""
+    return f"{_NAMES} {to_text(user)}"
 
 
 def _check_session(number: Any) -> bool:
@@ -192,8 +198,9 @@ class Rows:
         return self._stored({_SIGNED_IN: int(time.time()), "user": to_text(user),
                              "credential": None if credential is None else to_text(credential)}, lifetime)
 
-    def signed_in(self, number: Any, fresh: Optional[int] = None) -> Optional[KeptSignIn]:
-        """Who is signed in by this number, for `fresh` seconds at most; None where that ended, or its passkey is retired or deleted."""
+    def signed_in(self, number: Any, fresh: Optional[int] = None, *, looks_up: bool = True) -> Optional[KeptSignIn]:
+        """Who is signed in by this number, for `fresh` seconds at most; None where that ended, or its passkey is retired or deleted, which
+        is looked up unless another server has it."""
         found = self._found(number)
         if found is None or _SIGNED_IN not in found:
             return None
@@ -207,7 +214,7 @@ class Rows:
         if fresh is not None and time.time() - kept.at > fresh:
             return None
         statement = "select 1 from garvoeng_credential where id = ? and user_handle = ? and retired = 0"
-        is_open = kept.credential is None or self.run(statement, kept.credential, kept.user).fetchone() is not None
+        is_open = kept.credential is None or not looks_up or self.run(statement, kept.credential, kept.user).fetchone() is not None
         return kept if is_open else None
 
     def is_signed_in(self, user: Optional[bytes], sign_in: Optional[str]) -> bool:
@@ -216,6 +223,31 @@ class Rows:
             return True
         kept = self.signed_in(sign_in)
         return kept is not None and kept.user == user
+
+    # ---- what is kept beside sessions, in rows whose ids no visitor has a number for
+
+    def secret(self) -> bytes:
+        """32 random bytes, which are made where there are none."""
+        self.run("insert into garvoeng_session values (?, ?, ?) on conflict (id) do nothing", _SECRET,
+                 json.dumps({_SECRET: to_text(secrets.token_bytes(32))}), _NEVER)
+        found = self.run("select data from garvoeng_session where id = ?", _SECRET).fetchone()
+        return from_text(_members(found[0]).get(_SECRET), _SECRET)
+
+    def names(self, user: bytes) -> Dict[bytes, str]:
+        """What a user calls his passkeys, by their ids."""
+        found = self.run("select data from garvoeng_session where id = ?", _names_of(user)).fetchone()
+        named = None if found is None else _members(found[0]).get(_NAMES)
+        return {from_text(id, "id"): str(name) for id, name in named.items()} if isinstance(named, dict) else {}
+
+    def rename(self, user: bytes, id: bytes, name: str) -> None:
+        """Calls a passkey so. An empty name is none."""
+        self.lock(user)
+        named = {to_text(one): text for one, text in self.names(user).items() if one != id}
+        if name:
+            named[to_text(id)] = name
+        self.run("delete from garvoeng_session where id = ?", _names_of(user))
+        if named:
+            self.run("insert into garvoeng_session values (?, ?, ?)", _names_of(user), json.dumps({_NAMES: named, "user": to_text(user)}), _NEVER)
 
     # ---- credentials
 
@@ -270,6 +302,8 @@ class Rows:
         owner = self._owner(id, user)
         if owner is None or self.run("delete from garvoeng_credential where id = ?", id).rowcount != 1:
             return False
+        if id in self.names(owner):
+            self.rename(owner, id, "")
         self.end_of(owner, [_KINDS[RegistrationSession]])
         return True
 
@@ -277,6 +311,7 @@ class Rows:
         """How many credentials it had. All of the user's sessions end, and each visitor who is signed in is so no more."""
         self.lock(user)
         self.end_of(user, [*_KINDS.values(), _SIGNED_IN])
+        self.run("delete from garvoeng_session where id = ?", _names_of(user))
         return int(self.run("delete from garvoeng_credential where user_handle = ?", user).rowcount)
 
     def add(self, credential: Credential, backed_up: Optional[bool], aaguid: Optional[bytes]) -> None:

@@ -237,7 +237,7 @@ class StoredServer:
                  max_credentials: int = 1_000_000, existing: bool = False, at_least: int = 0, wary: bool = False,
                  log: Union[bool, str] = False, lifetime: int = 300, timeout: float = 30.0,
                  shared: bool = False, verify: Optional[Verify] = None) -> None:
-        origins = limits.check_party(rp_id, origins)
+        self.origins, self.top_origins = limits.check_party(rp_id, origins), limits.check_top_origins(top_origins)
         limits.check_profile(profile)
         limits.check_attestation(accept_none, accept_self)
         for flag, what in ((existing, "existing"), (wary, "wary"), (shared, "shared")):
@@ -249,8 +249,8 @@ class StoredServer:
         self._words = [program, f"--rp-id={rp_id}", f"--rp-name={rp_id if rp_name is None else rp_name}",
                        "--profile", profile, "--attestation", attestation,
                        f"--max-credentials={max_credentials}", f"--expire={limits.check_lifetime(lifetime)}",
-                       *(f"--origin={origin}" for origin in origins),
-                       *(f"--top-origin={origin}" for origin in limits.check_top_origins(top_origins)),
+                       *(f"--origin={origin}" for origin in self.origins),
+                       *(f"--top-origin={origin}" for origin in self.top_origins),
                        *(["--existing"] if existing else []),
                        *([f"--at-least={at_least}"] if at_least else []),
                        *(["--wary"] if wary else []),

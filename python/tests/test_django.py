@@ -1,5 +1,6 @@
 """`garvoeng.django`: its users, its settings and its transactions."""
 import pytest
+from web_core import later
 from web_sites import MIDDLEWARE, ORIGIN, DjangoSite, Later, adds_nothing, device, opened, registered, signed_in
 
 from garvoeng import RateLimit, Refused
@@ -113,6 +114,7 @@ def test_a_user_with_a_password(passwords, monkeypatch):
     visitor.client.get("/passkeys/")
     assert site.server.retire(key.id) and visitor("list")[0] == 200 and visitor.who() == "bob"
     monkeypatch.setattr(sign_ins, "time", Later(310))
+    later(monkeypatch, 310)
     assert visitor("register/begin", {"name": "x"})[0] == 401
     monkeypatch.undo()
     stranger = site.visitor()

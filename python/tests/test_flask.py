@@ -3,7 +3,8 @@ import threading
 
 import pytest
 from device import Device
-from web_sites import ORIGIN, FlaskSite, Later, device, flask, posted, registered, signed_in
+from web_core import later
+from web_sites import ORIGIN, FlaskSite, device, flask, posted, registered, signed_in
 
 from garvoeng import BadInput, RateLimit, pages
 from garvoeng.forms import to_text
@@ -50,7 +51,7 @@ def test_cookies_of_flask(tmp_path):
             attributes = {part.strip().split("=")[0] for part in line.split(";")[1:]}
             assert {"HttpOnly", "Path", "SameSite"} <= attributes and "Domain" not in attributes
             assert "Path=/" in line.split("; ") and "SameSite=Lax" in line.split("; ") and ("Secure" in attributes) == bool(front)
-            assert len(line.split(";")[0].split("=")[1]) in (0, 32)
+            assert len(line.split(";")[0].split("=")[1]) in (0, 95 if "registration" in line else 32)
         for path, varies in (("/who", "Cookie"), ("/passkeys/", None)):
             assert posted(site.app.test_client(use_cookies=False), visitor.jar, path, None).headers.get("Vary") == varies
         plain = site.visitor({"garvoeng": site.server.keep_sign_in(b"account 7")})
@@ -73,12 +74,11 @@ def test_hostile_cookies(tmp_path, caplog):
 
 
 def test_how_long_a_visitor_is_signed_in(tmp_path, monkeypatch):
-    from garvoeng import sql_rows
     site = FlaskSite(tmp_path, fresh=100, signed_in_for=1000)
     visitor = site.visitor()
     registered(visitor, device())
     for ahead, listed, begun in ((50, 200, 200), (150, 200, 401), (900, 200, 401), (1001, 401, 200)):
-        monkeypatch.setattr(sql_rows, "time", Later(ahead))
+        later(monkeypatch, ahead)
         assert (visitor("list")[0], visitor("register/begin", {"name": "ada"})[0]) == (listed, begun)
 
 

@@ -17,7 +17,8 @@ flask = pytest.importorskip("flask")
 django = pytest.importorskip("django")
 ORIGIN = "http://localhost:8000"
 MIDDLEWARE = ["django.contrib.sessions.middleware.SessionMiddleware", "django.contrib.auth.middleware.AuthenticationMiddleware",
-              "garvoeng.django.middleware.PasskeyMiddleware"]
+              "garvoeng.django.middleware.PasskeyMiddleware", "django.contrib.messages.middleware.MessageMiddleware",
+              "django.middleware.locale.LocaleMiddleware"]
 
 
 def posted(client, jar, path, data, content_type="application/json", **more):
@@ -108,9 +109,13 @@ def configured(folder):
     """Django's settings, which a process has once."""
     from django.conf import settings
     settings.configure(
-        SECRET_KEY="secret", ALLOWED_HOSTS=["testserver"], ROOT_URLCONF="django_urls",
+        SECRET_KEY="secret", ALLOWED_HOSTS=["testserver"], ROOT_URLCONF="django_urls", USE_TZ=True,
+        TEMPLATES=[{"BACKEND": "django.template.backends.django.DjangoTemplates", "APP_DIRS": True, "OPTIONS": {"context_processors": [
+            "django.template.context_processors.request", "django.contrib.auth.context_processors.auth",
+            "django.contrib.messages.context_processors.messages"]}}],
         DATABASES={"default": {"ENGINE": "django.db.backends.sqlite3", "NAME": f"{folder}/site.sqlite"}},
-        INSTALLED_APPS=["django.contrib.auth", "django.contrib.contenttypes", "django.contrib.sessions", "garvoeng.django"],
+        INSTALLED_APPS=["django.contrib.admin", "django.contrib.messages", "django.contrib.auth", "django.contrib.contenttypes",
+                        "django.contrib.sessions", "garvoeng.django"],
         MIDDLEWARE=MIDDLEWARE,
         AUTHENTICATION_BACKENDS=["garvoeng.django.backends.PasskeyBackend"], GARVOENG={"rp_id": "localhost", "origins": [ORIGIN]})
     django.setup()

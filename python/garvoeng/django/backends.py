@@ -1,26 +1,29 @@
 """Users by their passkeys."""
 from __future__ import annotations
 
-from typing import Any, Mapping, Optional
+from typing import Any, Mapping, Optional, Union
 
 from django.contrib.auth.backends import ModelBackend
 
+from ..records import Registered, SignedIn
 from .models import Account
 from .server import server
 
 
 class PasskeyBackend(ModelBackend):
     """`authenticate(request, passkey_session=.., passkey=..)` is the user of an AuthenticationResponseJSON, if it may sign in; the
-    counter is stored, and the session closed. Raises `Refused` and `BadInput`. A password is none of its."""
+    counter is stored, and the session closed. Raises `Refused` and `BadInput`. `passkey_accepted` is what was accepted already. A password
+    is none of its."""
 
     def authenticate(self, request: Any, passkey_session: Optional[str] = None, passkey: Optional[Mapping[str, Any]] = None,
-                     **_: Any) -> Any:
-        if passkey is None:
+                     passkey_accepted: Union[SignedIn, Registered, None] = None, **_: Any) -> Any:
+        if passkey is None and not isinstance(passkey_accepted, (SignedIn, Registered)):
             return None
-        credential = server().authenticate_complete(passkey_session, passkey).credential
+        credential = (passkey_accepted or server().authenticate_complete(passkey_session, passkey)).credential
         account = Account.objects.select_related("user").filter(handle=credential.user).first()
         if account is None or not self.user_can_authenticate(account.user):
             return None
-        # By it `login` knows with which passkey the sign-in ends.
-        account.user.garvoeng_credential = credential.id
+        if passkey_accepted is None:
+            # By it `login` knows with which passkey the sign-in ends; the acts keep that by themselves.
+            account.user.garvoeng_credential = credential.id
         return account.user

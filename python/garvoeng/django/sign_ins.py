@@ -1,20 +1,41 @@
-"""Visitors who are signed in: what their sign-ins keep, and what ends with them."""
+"""Visitors who are signed in: what their sessions of Django have, and what ends with them."""
 from __future__ import annotations
 
 import secrets
 import time
-from typing import Any, Optional
+from typing import Any, Iterator, Mapping, Optional
 
 from django.conf import settings
 from django.contrib.auth import BACKEND_SESSION_KEY
 
-from ..pages import FRESH
+from ..web import requests as core_requests
 from .models import Account
 from .server import server
 
 BACKEND = "garvoeng.django.backends.PasskeyBackend"
-SIGNED_IN, AT, REGISTRATION, SIGN_IN = "garvoeng_signed_in", "garvoeng_signed_in_at", "garvoeng_registration", "garvoeng_sign_in"
-"""What a visitor's session of Django has: the number of the sign-in, its time, and those of the sessions that are open."""
+SIGNED_IN, AT, REGISTRATION, SIGN_IN, FIELDS = "garvoeng_signed_in", "garvoeng_signed_in_at", "garvoeng_registration", "garvoeng_sign_in", "garvoeng_fields"
+"""What a visitor's session of Django has: the number of the sign-in, its time, what is open, and fields of a new user."""
+KEYS = dict(zip(core_requests.COOKIES, (SIGNED_IN, REGISTRATION, SIGN_IN)))
+"""What stands in the place of each cookie of the acts."""
+
+
+class Kept(Mapping[str, str]):
+    """A session of Django's as the cookies of the acts."""
+
+    def __init__(self, session: Any) -> None:
+        self._session = session
+
+    def __getitem__(self, name: str) -> str:
+        found = self._session[KEYS[name[len("__Host-"):] if name.startswith("__Host-") else name]]
+        if not isinstance(found, str):
+            raise KeyError(name)
+        return found
+
+    def __iter__(self) -> Iterator[str]:
+        return (name for name, key in KEYS.items() if key in self._session)
+
+    def __len__(self) -> int:
+        return len(list(iter(self)))
 
 
 def handle_of(user: Any) -> bytes:
@@ -27,19 +48,9 @@ def is_signed_in(request: Any) -> bool:
     return request.session.get(BACKEND_SESSION_KEY) != BACKEND or server().signed_in(request.session.get(SIGNED_IN)) is not None
 
 
-def fresh_sign_in(request: Any) -> Optional[str]:
-    """The number of the visitor's sign-in, where that is fresh enough to add a passkey to the account. One by a password gets its number
-    here."""
-    if time.time() - request.session.get(AT, 0) > settings.GARVOENG.get("fresh", FRESH):
-        return None
-    if SIGNED_IN not in request.session:
-        request.session[SIGNED_IN] = server().keep_sign_in(handle_of(request.user), lifetime=settings.SESSION_COOKIE_AGE)
-    number: str = request.session[SIGNED_IN]
-    return number if server().signed_in(number) is not None else None
-
-
 def _end_all(session: Any) -> None:
-    number = session.pop(REGISTRATION, [None])[0]
+    begun = session.pop(REGISTRATION, None)
+    number = begun.partition(".")[0] if isinstance(begun, str) else None
     for open_session in (number, session.pop(SIGN_IN, None), session.pop(SIGNED_IN, None)):
         if open_session is not None:
             server().abandon(open_session)
@@ -52,8 +63,8 @@ def logged_in(sender: Any, request: Any, user: Any, **_: Any) -> None:
         return
     _end_all(session)
     session[AT] = int(time.time())
-    if session.get(BACKEND_SESSION_KEY) == BACKEND:
-        credential = getattr(user, "garvoeng_credential", None)
+    credential = getattr(user, "garvoeng_credential", None)
+    if credential is not None and session.get(BACKEND_SESSION_KEY) == BACKEND:
         session[SIGNED_IN] = server().keep_sign_in(handle_of(user), credential, lifetime=settings.SESSION_COOKIE_AGE)
 
 

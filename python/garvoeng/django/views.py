@@ -1,130 +1,101 @@
 """What the addresses of the app answer."""
 from __future__ import annotations
 
-import secrets
-from functools import wraps
-from typing import Any, Callable
+from contextlib import nullcontext
+from typing import Any, Dict
 
 from django.conf import settings
-from django.contrib.auth import authenticate, get_user_model, login, logout
-from django.db import IntegrityError, transaction
+from django.db import transaction
 from django.http import HttpResponse, JsonResponse
-from django.views.decorators.csrf import csrf_protect, ensure_csrf_cookie
-from django.views.decorators.http import require_GET, require_POST
+from django.http.request import RawPostDataException, UnreadablePostError
+from django.middleware.csrf import CsrfViewMiddleware, get_token
+from django.template import TemplateDoesNotExist
+from django.template.loader import render_to_string
+from django.views.decorators.csrf import csrf_exempt, ensure_csrf_cookie
+from django.views.decorators.http import require_GET
 
-from .. import pages
-from ..errors import BadInput, Refused, RowDamaged, SessionDamaged
-from ..forms import to_text
-from .models import Account
-from .server import rate_limit, server
-from .sign_ins import BACKEND, REGISTRATION, SIGN_IN, SIGNED_IN, fresh_sign_in, handle_of
+from ..errors import BadInput
+from ..web import Answer, Denied, Request
+from .server import core, database
+from .sign_ins import KEYS, Kept
 
-def _error(text: str, status: int, **more: Any) -> JsonResponse:
-    return JsonResponse({"error": text, **more}, status=status)
+TEMPLATE = "garvoeng/passkeys.html"
 
 
-def _posted(view: Callable[..., HttpResponse]) -> Callable[..., HttpResponse]:
-    """A view that takes a JSON object, and whose refusals are answered."""
-    @csrf_protect
-    def protected(request: Any) -> HttpResponse:
-        return view(request, pages.object_in(request.body))
+class _Token(CsrfViewMiddleware):
+    """Django's own look at the token of a post, which answers why it is none."""
 
-    @require_POST
-    @wraps(view)
-    def answered(request: Any) -> HttpResponse:
-        wait = pages.wait_of(rate_limit(), request.META.get("REMOTE_ADDR"))
-        if wait:
-            response = _error(pages.TOO_OFTEN, 429)
-            response["Retry-After"] = str(wait)
-            return response
-        try:
-            pages.check_head(request.META.get("CONTENT_TYPE", ""), request.META.get("CONTENT_LENGTH"))
-            return protected(request)
-        except Refused as refused:
-            return _error(str(refused), 403, refusal=refused.name)
-        except BadInput as bad:
-            return _error(str(bad), 400)
-        except (RowDamaged, SessionDamaged):
-            return _error(pages.DAMAGED, 500)
-    return answered
+    def _reject(self, request: Any, reason: str) -> str:  # type: ignore[override]
+        return reason
+
+
+def check_token(request: Any) -> None:
+    """A post has Django's token."""
+    check = _Token(lambda _: HttpResponse())
+    check.process_request(request)
+    reason = check.process_view(request, None, (), {})
+    if reason:
+        raise Denied(str(reason))
+
+
+def body_of(request: Any) -> Any:
+    """The body of a post."""
+    try:
+        return request.body
+    except (RawPostDataException, UnreadablePostError):
+        raise BadInput("the body did not come, or was read before") from None
+
+
+def answer_to(request: Any, path: str, read: Any = body_of) -> Answer:
+    """What an act answers; what the visitor's cookies would have stands in his session. A registration and its user are one
+    transaction."""
+    def posted(_: int) -> Any:
+        check_token(request)
+        request.garvoeng_body = read(request)
+        return request.garvoeng_body
+
+    asked = Request(request.method, path, request.headers, Kept(request.session), posted, request.META.get("REMOTE_ADDR"), request)
+    with transaction.atomic(using=database()) if path == "register/finish" else nullcontext():
+        answer = core().answer(asked)
+    for name, value in answer.cookies.items():
+        if value is None:
+            request.session.pop(KEYS[name], None)
+        else:
+            request.session[KEYS[name]] = value
+    answer.cookies = {}
+    return answer
+
+
+def with_token(request: Any, response: Any) -> Any:
+    """The response with the token's cookie, where a sign-in changed it."""
+    return _Token(lambda _: HttpResponse()).process_response(request, response)
+
+
+@csrf_exempt
+def act(request: Any, path: str) -> HttpResponse:
+    answer = answer_to(request, path)
+    response = HttpResponse(answer.body, status=answer.status)
+    for name, value in answer.lines():
+        response[name] = value
+    return with_token(request, response)  # type: ignore[no-any-return]
 
 
 @require_GET
 @ensure_csrf_cookie
 def page(request: Any, path: str = "") -> HttpResponse:
-    return HttpResponse(pages.file(path), content_type=pages.FILES[path][1])
-
-
-@_posted
-def register_begin(request: Any, said: Any) -> HttpResponse:
-    number = None
-    if request.user.is_authenticated:
-        name, handle, number = request.user.get_username(), handle_of(request.user), fresh_sign_in(request)
-        if number is None:
-            return _error(pages.SIGN_IN_AGAIN, 401)
-    elif not settings.GARVOENG.get("sign_up", True):
-        return _error("nobody is signed in", 401)
-    else:
-        name, handle = pages.name_in(said), secrets.token_bytes(32)
-        if get_user_model().objects.filter(**{get_user_model().USERNAME_FIELD: name}).exists():
-            return _error("the name is another account's", 409)
-    options, session = server().register_begin(handle, name, sign_in=number)
-    request.session[REGISTRATION] = [session, name]
-    return JsonResponse(options)
-
-
-@_posted
-def register_finish(request: Any, said: Any) -> HttpResponse:
-    number, name = request.session.get(REGISTRATION) or (None, None)
-    sign_in = request.session.get(SIGNED_IN) if request.user.is_authenticated else None
-    try:
-        with transaction.atomic():
-            made = server().register_complete(number, said, sign_in=sign_in).credential
-            account = Account.objects.select_related("user").filter(handle=made.user).first()
-            user = account.user if account is not None else get_user_model().objects.create_user(name)
-            if account is None:
-                Account.objects.create(user=user, handle=made.user)
-    except IntegrityError:
-        return _error("the name is another account's", 409)
-    del request.session[REGISTRATION]
-    if not request.user.is_authenticated:
-        user.garvoeng_credential = made.id
-        login(request, user, backend=BACKEND)
-    return JsonResponse({"id": to_text(made.id)})
-
-
-@_posted
-def sign_in_begin(request: Any, said: Any) -> HttpResponse:
-    options, request.session[SIGN_IN] = server().authenticate_begin()
-    return JsonResponse(options)
-
-
-@_posted
-def sign_in_finish(request: Any, said: Any) -> HttpResponse:
-    user = authenticate(request, passkey_session=request.session.get(SIGN_IN), passkey=said)
-    if user is None:
-        return _error("the account may not sign in", 403)
-    del request.session[SIGN_IN]
-    login(request, user)
-    return JsonResponse({"user": user.get_username()})
+    """A file, or the page by the site's template."""
+    response = act(request, path)
+    if path == "":
+        try:
+            response.content = render_to_string(TEMPLATE, {}, request)
+        except TemplateDoesNotExist:
+            pass
+    return response
 
 
 @require_GET
-def listed(request: Any) -> HttpResponse:
-    if not request.user.is_authenticated:
-        return _error("nobody is signed in", 401)
-    rows = server().rows(handle_of(request.user))
-    return JsonResponse([{"id": to_text(row.id), "retired": row.retired} for row in rows], safe=False)
-
-
-@_posted
-def retire(request: Any, said: Any) -> HttpResponse:
-    if not request.user.is_authenticated:
-        return _error("nobody is signed in", 401)
-    return JsonResponse({"retired": server().retire(pages.id_in(said), user=handle_of(request.user))})
-
-
-@_posted
-def sign_out(request: Any, said: Any) -> HttpResponse:
-    logout(request)
-    return JsonResponse({})
+@ensure_csrf_cookie
+def token(request: Any) -> JsonResponse:
+    """Django's token for the script, wherever the site keeps it."""
+    made: Dict[str, str] = {"header": settings.CSRF_HEADER_NAME[len("HTTP_"):].replace("_", "-"), "token": get_token(request)}
+    return JsonResponse(made, headers={"Cache-Control": "no-store"})

@@ -32,5 +32,5 @@ class Migration(migrations.Migration):
             ("created_at", models.BigIntegerField()),
             ("used_at", models.BigIntegerField(null=True)),
         ], options={"db_table": "garvoeng_credential", "managed": False}),
-        migrations.RunPython(prepare, migrations.RunPython.noop),
+        migrations.RunPython(prepare, migrations.RunPython.noop, hints={"model_name": "credential"}),
     ]

@@ -1,0 +1,61 @@
+"""Passkeys for a site in aiohttp: an application with a page, and what it asks (`garvoeng.web`).
+
+    passkeys = Passkeys(server)
+    app.add_subapp("/passkeys/", passkeys.app)
+
+`await passkeys.signed_in(request)` is the visitor's user handle then, or None.
+"""
+from __future__ import annotations
+
+from functools import partial
+from typing import Any, Optional
+
+from aiohttp.web import Application, Request, Response
+from multidict import CIMultiDict
+
+from . import web
+
+
+async def _read(request: Request, most: int) -> bytes:
+    """So much of the body, or what was read before, as a middleware may do. It can be read again."""
+    if request._read_bytes is None:
+        body = b""
+        while len(body) < most and not request.content.at_eof():
+            body += await request.content.read(most - len(body))
+        request._read_bytes = body
+    return request._read_bytes
+
+
+class Passkeys:
+    """The acts of `garvoeng.web`, as the application `app`. `server`, `accounts` and `how` are as in `garvoeng.web.Passkeys`: the functions
+    of `Accounts` take aiohttp's request, and may be `async`. The visitor's address is `request.remote`."""
+
+    def __init__(self, server: Any, accounts: Any = None, **how: Any) -> None:
+        self.core = web.Passkeys(server, accounts, **how)
+        self.app = Application()
+        for path, method in web.PATHS.items():
+            self.app.router.add_route(method, f"/{path}", partial(self._answered, path))
+
+    def _asked(self, request: Request, path: str = "") -> web.Request:
+        return web.Request(request.method, path, request.headers, request.cookies, lambda most: _read(request, most), request.remote, request)
+
+    async def _answered(self, path: str, request: Request) -> Response:
+        answer = await self.core.answer_async(self._asked(request, path))
+        response = Response(body=answer.body, status=answer.status, headers=CIMultiDict(answer.lines()))
+        if not request.content.at_eof():
+            # What was refused by its head is not read; the connection ends with it.
+            response.force_close()
+        return response
+
+    async def visitor(self, request: Request) -> Optional[web.Visitor]:
+        """Who is signed in, or None. `visitor.is_fresh(300)` is what is asked before an act of weight."""
+        return await self.core.visitor_async(self._asked(request))
+
+    async def signed_in(self, request: Request) -> Optional[bytes]:
+        """The user handle of the visitor, or None."""
+        found = await self.visitor(request)
+        return None if found is None else found.user
+
+    async def end(self, request: Request) -> None:
+        """Ends the visitor's sign-in: for a sign-out of the site's own."""
+        await self.core.end_async(self._asked(request))

@@ -1,0 +1,136 @@
+"""The requests of a site with passkeys, in no framework: JSON and cookies in, JSON and cookies out.
+
+    core = Passkeys(server, accounts)
+    answer = core.answer(Request(method, path, headers, cookies, read, address, native))
+    visitor = core.visitor(request)
+
+`garvoeng.flask`, `garvoeng.django`, `garvoeng.starlette` and `garvoeng.aiohttp` are over it. `server` keeps the passkeys: a `SqlServer`, a
+`KeepingServer` or a `StoredServer`. The acts, each a POST of a JSON object but `list`: `register/begin` (`name`) and `sign-in/begin` answer
+options, `register/finish` and `sign-in/finish` take the browser's response and answer `id` and `user`, `sign-out`; `list` answers `id`,
+`name`, `model`, `created`, `used`, `backed_up` and `retired` of each passkey, `rename` takes `id` and `name`, `retire` `id`. `sign-in/begin`
+with `"again": true` is for who is signed in and shall be so afresh. An empty path is a page, `passkeys.js` the script for pages of the site.
+
+Answers: 400 to what is no input, 401 where nobody is signed in or a fresher sign-in is wanted, 403 to a refusal (`refusal` is its name), to
+who may not, and to a page of another site, 429 with Retry-After to an address that asks too often, 500 of a damaged row.
+"""
+from __future__ import annotations
+
+from typing import Any, Callable, Mapping, Optional, Sequence, Union
+
+from .. import limits, pages
+from ..answers import kind_of
+from ..errors import BadInput
+from ..keeping import PasskeyServer
+from ..server import Server
+from ..sql import SIGNED_IN, SqlServer
+from .accounts import Accounts, Denied, Visitor
+from .acts import ACTS, Visit
+from .driving import AT_ONCE, AWAITED, at_once
+from .models import MODELS
+from .requests import Answer, Request
+from .stores import MemoryWebStore, SqlWebStore, WebStore
+
+__all__ = ["MODELS", "Accounts", "Answer", "Denied", "MemoryWebStore", "Passkeys", "Request", "SqlWebStore", "Visitor", "WebStore", "PATHS"]
+
+PATHS = {path: method for path, (method, _) in ACTS.items()}
+"""The paths below the address of the acts, with the method of each."""
+_LEAST_SECRET = 32
+
+
+def _policy(top_origins: Sequence[str]) -> str:
+    """The page's Content-Security-Policy: it loads what the site has and nothing else, and stands in no frame but of `top_origins`."""
+    frames = " ".join(top_origins) or "'none'"
+    return ("default-src 'none'; script-src 'self'; connect-src 'self'; style-src 'self'; img-src 'self'; font-src 'self'; base-uri 'none'; "
+            f"form-action 'none'; frame-ancestors {frames}")
+
+
+def _store_of(server: PasskeyServer) -> WebStore:
+    if isinstance(server, SqlServer):
+        return SqlWebStore(server, looks_up=True)
+    return MemoryWebStore()
+
+
+def _secret(value: Union[str, bytes, None]) -> Optional[bytes]:
+    if value is None:
+        return None
+    if not isinstance(value, (str, bytes)):
+        raise TypeError(f"secret is a text or bytes, and not {kind_of(value)}")
+    made = value.encode() if isinstance(value, str) else value
+    if len(made) < _LEAST_SECRET:
+        raise BadInput(f"secret is too short: write {_LEAST_SECRET} random characters or more")
+    return made
+
+
+def _how(how: Optional[Mapping[str, Any]], call: str, *words: Any) -> Mapping[str, Any]:
+    """What a begin is given beside the account, which is tried once, so that no visitor is told what the site has wrong."""
+    made = dict(how or {})
+    for name in ("user", "exclude", "allow", "sign_in"):
+        if name in made:
+            raise TypeError(f"{name} of {call} is the core's")
+    getattr(Server("localhost", ["http://localhost"], verify=lambda *_: False), call)(*words, **made)
+    return made
+
+
+class Passkeys:
+    """The acts over a server and the site's accounts, of any `Accounts` or none.
+
+    `store` keeps who is signed in, and names of passkeys: the tables of a `SqlServer`, if not said, and of another server this process's
+    memory, which is for a site of one process. Others hand in `SqlWebStore(SqlServer(..))`, or their own. `secret`, of 32 bytes or more,
+    signs the cookie of an open registration; if not said the store has one.
+
+    A sign-in ends after `signed_in_for` seconds, by `sign-out`, and where its passkey is retired or deleted. A passkey is added for `fresh`
+    seconds after a sign-in, and by the sign-in that began it. Cookies are HttpOnly and SameSite=Lax, and where an origin of the server is
+    https also Secure, with `__Host-` before the name. A request that changes something has to be JSON, and of a page at an origin of the
+    server's or of `trusted_origins`. `rate_limit` is a `RateLimit()` if not said, and False for none.
+
+    `registration` and `sign_in` are handed on to `register_begin` and `authenticate_begin`, as `{"user_verification": True}`. `models` has
+    the names of authenticators by their aaguid, and `translate(text)` gives the text of an error in the visitor's language.
+
+    Raises `TypeError` and `BadInput` of what is out of its limits.
+    """
+
+    def __init__(self, server: PasskeyServer, accounts: Any = None, *, store: Optional[WebStore] = None, secret: Union[str, bytes, None] = None,
+                 fresh: int = pages.FRESH, signed_in_for: int = SIGNED_IN, rate_limit: Union[pages.Limit, bool, None] = None,
+                 trusted_origins: Sequence[str] = (), registration: Optional[Mapping[str, Any]] = None,
+                 sign_in: Optional[Mapping[str, Any]] = None, models: Mapping[str, str] = MODELS,
+                 translate: Callable[[str], str] = str) -> None:
+        if isinstance(server, Server) or not callable(getattr(server, "authenticate_complete", None)):
+            raise TypeError("Passkeys takes a server that keeps passkeys, as SqlServer(Server(..), connect)")
+        self.server: Any = server
+        self.accounts = accounts
+        self.store = store if store is not None else _store_of(server)
+        self.secret = _secret(secret)
+        self.fresh = limits.check_lifetime(fresh, "fresh")
+        self.signed_in_for = limits.check_lifetime(signed_in_for, "signed_in_for")
+        self.limit = pages.limit_of(rate_limit)
+        self.trusted = (*server.origins, *limits.check_list(trusted_origins, "trusted_origins", "texts, as [\"https://example.com\"]"))
+        self.is_secure = any(origin.startswith("https://") for origin in server.origins)
+        self.policy = _policy(server.top_origins)
+        self.registration = _how(registration, "register_begin", b"0", "0")
+        self.sign_in = _how(sign_in, "authenticate_begin")
+        self.models = models
+        self.translate = translate
+
+    def answer(self, request: Request) -> Answer:
+        """What a request is answered. Raises what the storage raises, and the site's functions."""
+        return at_once(Visit(self, request, AT_ONCE).answered())
+
+    async def answer_async(self, request: Request) -> Answer:
+        """The same, awaited: the server's calls are made by a thread of the loop, the site's functions by the loop."""
+        return await Visit(self, request, AWAITED).answered()
+
+    def visitor(self, request: Request) -> Optional[Visitor]:
+        """Who is signed in, or None. `fresh` of a step-up is `visitor.is_fresh(seconds)`."""
+        return at_once(Visit(self, request, AT_ONCE).visitor())
+
+    async def visitor_async(self, request: Request) -> Optional[Visitor]:
+        """The same, awaited."""
+        return await Visit(self, request, AWAITED).visitor()
+
+    def end(self, request: Request) -> None:
+        """Ends the visitor's sign-in, and what he has open: for a sign-out of the site's own. Who kept the cookies is nobody then."""
+        at_once(Visit(self, request, AT_ONCE).end())
+
+    async def end_async(self, request: Request) -> None:
+        """The same, awaited."""
+        await Visit(self, request, AWAITED).end()
