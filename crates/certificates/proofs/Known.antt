@@ -290,7 +290,7 @@ key_takes algorithm (unused ∷ octets) f fits e =
     let g = wanted_some (eqb unused 0) (known_key algorithm octets) f e in
     (octets, ap (λ (k : ℕ). k ∷ octets) (eqb-true unused 0 g.0), known_takes algorithm octets f (IsBytes-rest unused octets fits) g.1)
 
-key_again : (f : KeyForm) → Fits f → Below (0 ∷ key_octets f) → key_in (algorithm_octets f) (0 ∷ key_octets f) ≡ Some f
+pub key_again : (f : KeyForm) → Fits f → Below (0 ∷ key_octets f) → key_in (algorithm_octets f) (0 ∷ key_octets f) ≡ Some f
 unfolding key_in
 key_again f h lt = known_again f h (omega (arith, lt))
 

@@ -8,3 +8,4 @@ pub mod Meant
 pub mod Items
 pub mod Purposes
 pub mod Named
+pub mod Unique

@@ -36,7 +36,7 @@ aaguid_takes value aaguid fits e =
     let h = whole_field_takes OCTET_STRING value a.0 (omega arith) fits a.1 in
     subst (λ (x : List ℕ). IsAaguid x value) (ok_is a.0 aaguid g.1) (record { size = eqb-true (length a.0) 16 g.0; parts = h.parts })
 
-aaguid_again : (value aaguid : List ℕ) → IsAaguid aaguid value → aaguid_in value ≡ Ok aaguid
+pub aaguid_again : (value aaguid : List ℕ) → IsAaguid aaguid value → aaguid_in value ≡ Ok aaguid
 unfolding aaguid_in
 aaguid_again value aaguid h =
     let size = h.size in
@@ -60,7 +60,7 @@ nonce_takes value nonce fits e =
     h.parts ∙ ap (element SEQUENCE) (k.parts ∙ ap (element (context true 1)) l.parts) in
     subst (λ (x : List ℕ). IsNonce x value) (ok_is c.0 nonce g.1) (record { size = eqb-true (length c.0) 32 g.0; parts = parts })
 
-nonce_again : (value nonce : List ℕ) → IsNonce nonce value → nonce_in value ≡ Ok nonce
+pub nonce_again : (value nonce : List ℕ) → IsNonce nonce value → nonce_in value ≡ Ok nonce
 unfolding nonce_in
 nonce_again value nonce h =
     let size = h.size in
@@ -130,7 +130,7 @@ constraints_takes value x fits e =
     subst (λ (y : Bool × Option (List ℕ)). IsConstraints y.0 y.1 value) (ok_is made x c.2)
     (record { digits = l.digits; size = subst Below content size; parts = h.parts ∙ ap (element SEQUENCE) content })
 
-constraints_again : (value : List ℕ) (authority : Bool) (path : Option (List ℕ)) → IsConstraints authority path value
+pub constraints_again : (value : List ℕ) (authority : Bool) (path : Option (List ℕ)) → IsConstraints authority path value
     → constraints_in value ≡ Ok (authority, path)
 unfolding constraints_in
 constraints_again value authority path h =

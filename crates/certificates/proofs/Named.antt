@@ -93,10 +93,10 @@ attribute_again : (a : AttributeForm) (rest : List ℕ) → IsAttribute a → at
 unfolding attribute_at
 attribute_again a rest h = rw (field_again SEQUENCE (attribute_content a) rest h.size, attribute_from_again a h) refl
 
-abbrev octets_of : AttributeForm → List ℕ
+abbrev pub octets_of : AttributeForm → List ℕ
 octets_of a = attribute_octets a
 
-exact : ReadsItems octets_of IsAttribute attribute_at
+pub exact : ReadsItems octets_of IsAttribute attribute_at
 exact = record {
   takes = λ bs x fits e. let t = attribute_takes bs x fits e in record { parts = t.parts; is = t.is; rest_fits = t.rest_fits };
   again = λ a rest is. attribute_again a rest is;
@@ -149,10 +149,10 @@ part_ends content rest identifier o h none =
 
 -- ---- the parts of a name
 
-abbrev set_of : List ℕ → List ℕ
+abbrev pub set_of : List ℕ → List ℕ
 set_of content = element SET content
 
-exact_sets : ReadsItems set_of Below (field_at SET)
+pub exact_sets : ReadsItems set_of Below (field_at SET)
 exact_sets = record {
   takes = λ bs x fits e.
       let t = field_takes SET bs x (omega arith) fits e in
@@ -161,7 +161,7 @@ exact_sets = record {
   some = λ c. some_octet SET c;
 }
 
-abbrev content_of : List AttributeForm → List ℕ
+abbrev pub content_of : List AttributeForm → List ℕ
 content_of xs = joined attribute_octets xs
 
 sets_more : (parts : List (List AttributeForm)) (xs : List AttributeForm) → map content_of (parts ++ xs ∷ []) ≡ map content_of parts ++ content_of xs ∷ []
@@ -172,7 +172,7 @@ parts_more : (parts : List (List AttributeForm)) (xs : List AttributeForm) → A
 parts_more [] xs h is = (is, tt)
 parts_more (p ∷ parts) xs h is = (h.0, parts_more parts xs h.1 is)
 
-parts_below : (parts : List (List AttributeForm)) → AllByRecursion IsPart parts → AllByRecursion Below (map content_of parts)
+pub parts_below : (parts : List (List AttributeForm)) → AllByRecursion IsPart parts → AllByRecursion Below (map content_of parts)
 parts_below [] h = tt
 parts_below (p ∷ parts) h = (h.0.size, parts_below parts h.1)
 

@@ -17,7 +17,7 @@ use Rattle.certificates.proofs.Listing.{some_octet, identifier_field_takes, iden
 use Rattle.certificates.proofs.Items.{ReadsItems, Walked, walked_none, walked_more, walked_shorter, walked_all, walked_stops}
 use Rattle.certificates.proofs.Known.{whole_below}
 
-abbrev octets_of : List ℕ → List ℕ
+abbrev pub octets_of : List ℕ → List ℕ
 octets_of purpose = element OBJECT_IDENTIFIER purpose
 
 identifier_below : (bs : List ℕ) (x : List ℕ × List ℕ) → IsBytes bs → identifier_field_at bs ≡ Ok x → Below x.0
@@ -27,7 +27,7 @@ identifier_below bs x fits e =
     let b = bind_ok (lifted (object_identifier_in a.0.0)) _ x a.2 in
     subst (λ (y : List ℕ × List ℕ). Below y.0) (ok_is a.0 x b.2) (field_below OBJECT_IDENTIFIER bs a.0 (omega arith) fits a.1)
 
-exact : ReadsItems octets_of IsPurpose identifier_field_at
+pub exact : ReadsItems octets_of IsPurpose identifier_field_at
 exact = record {
   takes = λ bs x fits e.
       let t = identifier_field_takes bs x fits e in

@@ -148,7 +148,7 @@ certificate_takes bs x fits e =
       signed_is = front_is a.0 (element SEQUENCE b.0.0) b.0.1 k.parts ∙ signed;
     })
 
-certificate_again : (c : Form) → IsCertificate c → certificate_at (certificate_octets c) ≡ Ok (element SEQUENCE (tbs_octets c.tbs), c)
+pub certificate_again : (c : Form) → IsCertificate c → certificate_at (certificate_octets c) ≡ Ok (element SEQUENCE (tbs_octets c.tbs), c)
 unfolding certificate_at
 certificate_again c h =
     let after : List ℕ = element SEQUENCE c.tbs.algorithm ++ element BIT_STRING (0 ∷ c.signature) in

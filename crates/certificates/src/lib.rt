@@ -11,6 +11,7 @@ mod error;
 mod extension;
 mod field;
 mod key;
+mod law;
 mod meaning;
 mod name;
 mod tags;
@@ -21,6 +22,7 @@ pub use certificate::{Certificate, TbsCertificate, Version, read_certificate};
 pub use error::Error;
 pub use extension::{Extension, find_extension};
 pub use key::{PublicKey, read_key};
+pub use law::one_reading;
 pub use meaning::{
     AAGUID, ANDROID_KEY_DESCRIPTION, APPLE_NONCE, BASIC_CONSTRAINTS, BasicConstraints,
     SUBJECT_ALTERNATIVE_NAME, read_aaguid, read_apple_nonce, read_basic_constraints,

@@ -1,0 +1,15 @@
+pub mod Algorithms
+pub mod Signed
+pub mod Messages
+pub mod Asked
+pub mod Inputs
+pub mod Statements
+pub mod Certified
+pub mod Rules
+pub mod Packed
+pub mod FidoU2f
+pub mod Apple
+pub mod Steps
+pub mod Numbers
+pub mod Walks
+pub mod Unread
