@@ -223,16 +223,6 @@ WEAKENINGS = [
             "Restarted (old.holder k).state state × ChangesHolder old new k (after_restart (old.holder k) state) × ⊥\n")]),
     ("no_reopens", "no site is opened again", [
         (WORLD, "pub record IsReopened (s t : site.SiteState) : Type 0 where\n", "pub record IsReopened (s t : site.SiteState) : Type 0 where\n  pub never : ⊥\n")]),
-    ("reopens_alike", "a site is opened again with the same pages and profile alone", [
-        (WORLD, "pub record IsReopened (s t : site.SiteState) : Type 0 where\n", "pub record IsReopened (s t : site.SiteState) : Type 0 where\n  pub alike : t.rp ≡ s.rp\n")]),
-    ("reopens_elsewhere", "a site is opened again for another rp id", [
-        (WORLD, "pub record IsReopened (s t : site.SiteState) : Type 0 where\n  pub rp_id : t.rp.rp_id ≡ s.rp.rp_id\n", "pub record IsReopened (s t : site.SiteState) : Type 0 where\n")]),
-    ("reopens_without_rows", "a site that is opened again may have other credentials", [
-        (WORLD, "  pub rows : t.rows ≡ s.rows\n  pub sessions : t.sessions ≡ record s.sessions", "  pub sessions : t.sessions ≡ record s.sessions")]),
-    ("reopens_with_sessions", "a site that is opened again may have other sessions", [
-        (WORLD, "  pub rows : t.rows ≡ s.rows\n  pub sessions : t.sessions ≡ record s.sessions { max_open = t.sessions.max_open }\n", "  pub rows : t.rows ≡ s.rows\n")]),
-    ("loads_alike", "a site restarts with the same pages and profile alone", [
-        (WORLD, "  pub rp_id : t.rp.rp_id ≡ s.rp.rp_id\n  pub none_open", "  pub rp_id : t.rp ≡ s.rp\n  pub none_open")]),
     ("no_expires", "no session expires", [
         (WORLD, "pub record EndsSessions (s t : site.SiteState) : Type 0 where\n", "pub record EndsSessions (s t : site.SiteState) : Type 0 where\n  pub never : ⊥\n")]),
     ("no_retires", "no credential is retired", [
@@ -434,8 +424,9 @@ WEAKENINGS = [
         (WORLD, "  pub sites : (i : ℕ) → new.site i ≡ old.site i\n", "  pub sites : (i : ℕ) → Unit {0}\n"),
         (LIVED, "others = λ j apart. other j apart; sites = λ i. refl }", "others = λ j apart. other j apart; sites = λ i. tt }")]),
     ("loaded_party", "a site loads as another relying party", [
-        (WORLD, "  pub rp : t.rp ≡ s.rp\n", "  pub rp : Unit {0}\n"),
-        ("agreement/proofs/CallsActed.antt", "    rp = ap (λ (x : SiteState). x.rp) loaded.1;\n", "    rp = tt;\n")]),
+        (WORLD, "  pub rp_id : t.rp.rp_id ≡ s.rp.rp_id\n  pub none_open", "  pub rp_id : Unit {0}\n  pub none_open"),
+        ("agreement/proofs/CallsActed.antt", "  rp_id = ap (λ (x : SiteState). x.rp.rp_id) loaded.1 ∙ same;\n", "  rp_id = tt;\n"),
+        ("agreement/proofs/Everything.antt", "rp_id = refl;\n                                    none_open", "rp_id = tt;\n                                    none_open")]),
     # more of hosts' runs
     ("host_unbound", "a host's relation need not be within the wide one", [
         (HOSTS, "((i : I) × IsWithin (narrow i) wide × Happens", "((i : I) × Unit {0} × Happens")]),
@@ -459,10 +450,10 @@ WEAKENINGS = [
         (STORED, "        next = max old.next old.durable;\n", "        next = 1;\n")]),
     ("stored_trees", "an open finds any trees", [
         (HISTORY, "  pub trees : new.trees ≡ kept.trees\n", "  pub trees : Unit {0}\n"),
-        (STAGES, "record { trees = refl; rp = refl;", "record { trees = tt; rp = refl;")]),
-    ("stored_party", "an open finds another relying party", [
-        (HISTORY, "  pub rp : new.state.rp ≡ kept.state.rp\n", "  pub rp : Unit {0}\n"),
-        (STAGES, "record { trees = refl; rp = refl;", "record { trees = refl; rp = tt;")]),
+        (STAGES, "record { trees = refl; rp_id = refl;", "record { trees = tt; rp_id = refl;")]),
+    ("stored_party", "an open finds another rp id", [
+        (HISTORY, "  pub rp_id : new.state.rp.rp_id ≡ kept.state.rp.rp_id\n", "  pub rp_id : Unit {0}\n"),
+        (STAGES, "record { trees = refl; rp_id = refl;", "record { trees = refl; rp_id = tt;")]),
     ("stored_commit", "what is told need not be committed", [
         (AMONG, "commits (Stores (Opens finds_all)) rest = finds_all\n", "commits (Stores (Opens finds_all)) rest = true\n")]),
     # of a key's PIN
