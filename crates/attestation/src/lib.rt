@@ -8,7 +8,6 @@
 mod algorithm;
 mod apple;
 mod certificate_list;
-mod certificates;
 mod fido_u2f;
 mod inputs;
 mod judging;
@@ -20,6 +19,7 @@ mod rules;
 mod signature;
 mod statement;
 mod verifier;
+mod x5c;
 
 pub use algorithm::Algorithm;
 pub use certificate_list::{Certificates, MAX_CERTIFICATES};

@@ -8,7 +8,7 @@ ghost use Rattle.attestation.specs.Statements.{certificates_view, with_alg, with
 
 use crate::algorithm::{Algorithm, algorithm_in};
 use crate::certificate_list::Certificates;
-use crate::certificates::certificates_in;
+use crate::x5c::certificates_in;
 use ccbor::{MapKey, MapView};
 
 /// The algorithm, where it is the first member, and the members after it.

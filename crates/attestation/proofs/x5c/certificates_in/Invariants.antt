@@ -3,7 +3,7 @@ use Rattle.std.proofs.Common.{◌≡◌, ◌≤◌, length, map, take}
 use Rattle.ccbor.specs.Item.{array}
 use Rattle.ccbor.specs.Viewing.{shown, shown_items}
 use Rattle.attestation.specs.Walks.{behind}
-use Rattle.attestation.proofs.certificates.certificates_in.Given as goal
+use Rattle.attestation.proofs.x5c.certificates_in.Given as goal
 
 abbrev pub invariant-loop-item : goal.invariant-loop-item
 invariant-loop-item l = record {

@@ -6,7 +6,7 @@ use Rattle.ccbor.specs.Viewing.{shown_items}
 use Rattle.ccbor.proofs.AccessLemmas.{bytes_in_is, first_is, none_is}
 use Rattle.attestation.specs.Walks.{behind}
 use Rattle.attestation.proofs.Listed.{behind_end, behind_more, empty, front_length, full, not_bytes}
-use Rattle.attestation.proofs.certificates.certificates_in.Goals as goal
+use Rattle.attestation.proofs.x5c.certificates_in.Goals as goal
 
 -- the items that are left begin with this one
 begins : (v : Item) (front : List (List ℕ)) (xs : Items) (x : Item) (rest : Items) → v ≡ array (behind front xs) → xs ≡ item x rest
