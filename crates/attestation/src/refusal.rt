@@ -12,7 +12,7 @@ pub enum AttestationRefusal {
     /// 1: the format is none that is judged here (8.1).
     #[error("the format is none that is judged")]
     UnknownFormat,
-    /// 2: the format is `android-safetynet` (8.5), whose service has ended; it is told, and not judged.
+    /// 2: the format is `android-safetynet` (8.5), whose service has ended. It is not judged.
     #[error("a statement of SafetyNet, which has ended")]
     EndedFormat,
     /// 3: the statement does not have the syntax of its format, has an algorithm that is none of `Algorithm`, no certificate or more than

@@ -23,7 +23,7 @@ use verification::{
     AssertionParts, Policy, RegistrationParts, RegistrationRefusal, RelyingParty, SignInRefusal,
 };
 
-/// Finishes a sign-in: in the session of the text, whose number is told.
+/// Finishes a sign-in in the session of this text.
 pub fn finish_parts<V: Verifier, S: Store>(
     site: &mut StoredSite<S>,
     verifier: &V,
@@ -36,7 +36,7 @@ pub fn finish_parts<V: Verifier, S: Store>(
     site.finish_parts(verifier, text, response, now)
 }
 
-/// Finishes a registration: in the session of the text, whose number is told.
+/// Finishes a registration in the session of this text.
 pub fn finish_registration_parts<V: Verifier, S: Store>(
     site: &mut StoredSite<S>,
     verifier: &V,
@@ -76,7 +76,7 @@ pub fn delete<S: Store>(site: &mut StoredSite<S>, id: &[u8], now: u64) -> Result
     site.delete(id, now)
 }
 
-/// Retires all credentials of a user, whose ids are told.
+/// Retires all credentials of a user.
 pub fn retire_all<S: Store>(
     site: &mut StoredSite<S>,
     user: &[u8],
@@ -87,7 +87,7 @@ pub fn retire_all<S: Store>(
     site.retire_all(user, now)
 }
 
-/// Deletes all credentials of a user, whose ids are told.
+/// Deletes all credentials of a user.
 pub fn erase<S: Store>(site: &mut StoredSite<S>, user: &[u8], now: u64) -> Result<usize, Failure>
     ensures { IfOk result (λ told. Makes S.Store.view nothing_valid site.old (λ ids. Erases user.now ids now) site.new) }
 {
