@@ -48,7 +48,7 @@ class Passkeys:
         return response
 
     async def visitor(self, request: Request) -> Optional[web.Visitor]:
-        """Who is signed in, or None. `visitor.is_fresh(300)` is what is asked before an act of weight."""
+        """Who is signed in, or None. Ask `visitor.is_fresh(300)` before a sensitive act."""
         return await self.core.visitor_async(self._asked(request))
 
     async def signed_in(self, request: Request) -> Optional[bytes]:

@@ -55,7 +55,7 @@ def signed_in() -> Optional[bytes]:
 
 
 def fresh(seconds: float) -> bool:
-    """Whether the visitor signed in at most so many seconds ago: what is asked before an act of weight. Else the page calls
+    """Whether the visitor signed in at most this many seconds ago: ask it before a sensitive act. Else the page calls
     `passkeys.signIn({ again: true })`."""
     found = visitor()
     return found is not None and found.is_fresh(seconds)

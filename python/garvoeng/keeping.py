@@ -152,16 +152,9 @@ class KeepingServer:
         if not isinstance(server, Server) or not callable(getattr(store, "sign_in", None)):
             raise TypeError("KeepingServer takes a Server and a Store, as MemoryStore()")
         self.server = server
+        self.origins, self.top_origins = server.origins, server.top_origins
         self.store = store
         self.lifetime = limits.check_lifetime(lifetime)
-
-    @property
-    def origins(self) -> Tuple[str, ...]:
-        return self.server.origins
-
-    @property
-    def top_origins(self) -> Tuple[str, ...]:
-        return self.server.top_origins
 
     # ---- sessions
 

@@ -57,18 +57,11 @@ class SqlServer:
             if hook is not None and not callable(hook):
                 raise TypeError(f"{name} is a function of rows and what was done, and not {kind_of(hook)}")
         self.server = server
+        self.origins, self.top_origins = server.origins, server.top_origins
         self.connect = connect
         self.lifetime = limits.check_lifetime(lifetime)
         self._on_registered, self._on_signed_in, self._on_erased = on_registered, on_signed_in, on_erased
         self._is_sqlite: Optional[bool] = None
-
-    @property
-    def origins(self) -> Tuple[str, ...]:
-        return self.server.origins
-
-    @property
-    def top_origins(self) -> Tuple[str, ...]:
-        return self.server.top_origins
 
     @contextmanager
     def transaction(self, *, writes: bool = True) -> Iterator[Rows]:
@@ -193,7 +186,7 @@ class SqlServer:
         return self.within(lambda rows: rows.keep_sign_in(handle, identity, lifetime))
 
     def signed_in(self, number: Optional[str], *, fresh: Optional[int] = None) -> Optional[KeptSignIn]:
-        """Who is signed in by this number, or None; with `fresh`, if it is at most so many seconds ago."""
+        """Who is signed in by this number, or None; with `fresh`, if that was at most this many seconds ago."""
         return self.within(lambda rows: rows.signed_in(number, fresh), writes=False)
 
     # ---- sessions and credentials

@@ -1,7 +1,7 @@
 """`garvoeng.django`: its users, its settings and its transactions."""
 import pytest
-from web_core import later
-from web_sites import MIDDLEWARE, ORIGIN, DjangoSite, Later, adds_nothing, device, opened, registered, signed_in
+from web_core import ORIGIN, Later, device, later, signed_in
+from web_sites import MIDDLEWARE, DjangoSite, adds_nothing, opened, registered
 
 from garvoeng import RateLimit, Refused
 from garvoeng.forms import from_text

@@ -3,8 +3,8 @@ import threading
 
 import pytest
 from device import Device
-from web_core import later
-from web_sites import ORIGIN, FlaskSite, device, flask, posted, registered, signed_in
+from web_core import ORIGIN, device, later, signed_in
+from web_sites import FlaskSite, flask, posted, registered
 
 from garvoeng import BadInput, RateLimit, pages
 from garvoeng.forms import to_text

@@ -4,8 +4,8 @@ import logging
 import pytest
 from device import changed
 from hostile import VALUES, changes
-from web_core import later
-from web_sites import FlaskSite, Later, adds_nothing, device, opened, registered, signed_in, site
+from web_core import Later, device, later, signed_in
+from web_sites import FlaskSite, adds_nothing, opened, registered, site
 
 from garvoeng.forms import from_text, to_text
 

@@ -2,12 +2,11 @@
 import json
 import sqlite3
 import tempfile
-import time
 from contextlib import closing
 from http.cookies import SimpleCookie
 
 import pytest
-from device import Device
+from web_core import ORIGIN, device
 
 from garvoeng import Server
 from garvoeng.forms import from_text
@@ -15,7 +14,6 @@ from garvoeng.sql import SqlServer
 
 flask = pytest.importorskip("flask")
 django = pytest.importorskip("django")
-ORIGIN = "http://localhost:8000"
 MIDDLEWARE = ["django.contrib.sessions.middleware.SessionMiddleware", "django.contrib.auth.middleware.AuthenticationMiddleware",
               "garvoeng.django.middleware.PasskeyMiddleware", "django.contrib.messages.middleware.MessageMiddleware",
               "django.middleware.locale.LocaleMiddleware"]
@@ -128,32 +126,11 @@ def site(request, tmp_path):
     return request.param(tmp_path)
 
 
-def device(identity=b"credential"):
-    return Device(credential=identity, rp_id="localhost", origin=ORIGIN)
-
-
 def registered(visitor, key, name="ada"):
     status, options = visitor("register/begin", {"name": name})
     assert status == 200, options
     key.user = from_text(options["user"]["id"], "user")
     return visitor("register/finish", key.register(options))
-
-
-def signed_in(visitor, key):
-    status, options = visitor("sign-in/begin", {})
-    assert status == 200, options
-    response = key.sign_in(options, user=key.user)
-    return response, visitor("sign-in/finish", response)
-
-
-class Later:
-    """A clock that is ahead."""
-
-    def __init__(self, seconds):
-        self.seconds = seconds
-
-    def time(self):
-        return time.time() + self.seconds
 
 
 def opened(visitor, key):

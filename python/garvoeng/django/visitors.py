@@ -14,7 +14,7 @@ def visitor(request: Any) -> Optional[Visitor]:
 
 
 def fresh(request: Any, seconds: float) -> bool:
-    """Whether the visitor signed in at most so many seconds ago: what a view asks before an act of weight. Else the page calls
+    """Whether the visitor signed in at most this many seconds ago: ask it before a sensitive act. Else the page calls
     `passkeys.signIn({ again: true })`."""
     found = visitor(request)
     return found is not None and found.is_fresh(seconds)

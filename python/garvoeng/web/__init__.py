@@ -24,7 +24,7 @@ from ..keeping import PasskeyServer
 from ..server import Server
 from ..sql import SIGNED_IN, SqlServer
 from .accounts import Accounts, Denied, Visitor
-from .acts import ACTS, Visit
+from .acts import PATHS, Visit
 from .driving import AT_ONCE, AWAITED, at_once
 from .models import MODELS
 from .requests import Answer, Request
@@ -32,8 +32,6 @@ from .stores import MemoryWebStore, SqlWebStore, WebStore
 
 __all__ = ["MODELS", "Accounts", "Answer", "Denied", "MemoryWebStore", "Passkeys", "Request", "SqlWebStore", "Visitor", "WebStore", "PATHS"]
 
-PATHS = {path: method for path, (method, _) in ACTS.items()}
-"""The paths below the address of the acts, with the method of each."""
 _LEAST_SECRET = 32
 
 

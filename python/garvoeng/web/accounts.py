@@ -37,7 +37,7 @@ class Visitor:
     """What the visitor's cookie has, which only this visitor may have."""
 
     def is_fresh(self, seconds: float) -> bool:
-        """Whether the visitor signed in at most so many seconds ago. A time that is to come is as far away as it is."""
+        """Whether the visitor signed in at most this many seconds ago. A sign-in dated ahead of the clock counts by how far ahead it is."""
         return self.at is not None and abs(time.time() - self.at) <= seconds
 
 

@@ -54,17 +54,16 @@ class Visit:
     # ---- the answer
 
     async def answered(self) -> Answer:
-        found = ACTS.get(self.request.path)
+        path, method = self.request.path, PATHS.get(self.request.path)
         headers: Dict[str, str] = {}
         try:
-            if found is None:
+            if method is None:
                 raise _Told(404, "there is no such page")
-            method, act = found
             if self.request.method != method and (self.request.method, method) != ("HEAD", "GET"):
                 raise _Told(405, "the method is another", Allow=method)
-            if method == "GET" and self.request.path in pages.FILES:
+            if path in pages.FILES:
                 return self._file()
-            status, value = 200, await act(self)
+            status, value = 200, await ACTS[path][1](self)
         except _Told as told:
             status, value, headers = told.status, {"error": self._text(told.text)}, told.headers
         except Refused as refused:
@@ -337,15 +336,13 @@ class Visit:
         said, user = await self._posted(), (await self._wanted()).user
         return {"retired": await self.calls.of(self.server, "retire", pages.id_in(said), user=user)}
 
-    async def page(self) -> Json:
-        raise AssertionError("a file is answered before")
-
 
 Act = Callable[[Visit], Awaitable[Any]]
 ACTS: Dict[str, Tuple[str, Act]] = {
-    **{path: ("GET", Visit.page) for path in pages.FILES},
     "register/begin": ("POST", Visit.register_begin), "register/finish": ("POST", Visit.register_finish),
     "sign-in/begin": ("POST", Visit.sign_in_begin), "sign-in/finish": ("POST", Visit.sign_in_finish), "sign-out": ("POST", Visit.sign_out),
     "list": ("GET", Visit.listed), "rename": ("POST", Visit.rename), "retire": ("POST", Visit.retire),
 }
 """The acts by their paths, and the method of each."""
+PATHS: Dict[str, str] = {**dict.fromkeys(pages.FILES, "GET"), **{path: method for path, (method, _) in ACTS.items()}}
+"""The paths below the address of the acts, the page's among them, with the method of each."""

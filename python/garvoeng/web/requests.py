@@ -34,7 +34,7 @@ class Request:
     headers: Headers
     cookies: Mapping[str, str]
     read: Callable[[int], Any] = lambda most: b""
-    """Reads the body, so many bytes at most; the awaited core awaits what it gives. A mapping is a JSON object that was read before."""
+    """Reads at most this many bytes of the body; the awaited core awaits the result. A mapping is a JSON object that was read before."""
     address: Optional[str] = None
     """The visitor's, by which requests are counted."""
     native: Any = None
