@@ -60,6 +60,17 @@ export const register = async (options, { signal, mediation } = {}) => credentia
 export const signIn = async (options, { signal, mediation } = {}) => credentialBy("get", optionsOf("Request", options), { signal, mediation });
 export const canAutofill = async () => (await globalThis.PublicKeyCredential?.isConditionalMediationAvailable?.()) === true;
 
+// Whether the browser has this call, which tells the authenticator what the site says.
+async function signalled(call, told) {
+  if (globalThis.PublicKeyCredential?.[call] === undefined) return false;
+  await PublicKeyCredential[call](told);
+  return true;
+}
+
+export const signalUnknownCredential = (told) => signalled("signalUnknownCredential", told);
+export const signalAllAccepted = (told) => signalled("signalAllAcceptedCredentials", told);
+export const signalUserDetails = (told) => signalled("signalCurrentUserDetails", told);
+
 export async function autofill(begin, { signal, milliseconds = 240_000 } = {}) {
   for (;;) {
     const controller = new AbortController(), end = () => controller.abort(signal.reason);

@@ -16,18 +16,37 @@ const LETTERS = "ABCDEFGHIJKLMNOPQRSTUVWXYZabcdefghijklmnopqrstuvwxyz0123456789-
 const ZERO = LETTERS.charCodeAt(0);
 const SEXTETS = new Uint8Array(256).fill(255);
 for (let index = 0; index < 64; index++) SEXTETS[LETTERS.charCodeAt(index)] = index;
+const CODES = Uint8Array.from(LETTERS, (letter) => letter.charCodeAt(0));
+// What an array of bytes is, whatever members a class of the host's has.
+const [bufferOf, offsetOf, lengthOf] = ["buffer", "byteOffset", "byteLength"].map((name) => Object.getOwnPropertyDescriptor(Object.getPrototypeOf(Uint8Array.prototype), name).get);
+// Node's buffers are ten times as fast; a bundler's may not have this form.
+const { Buffer } = globalThis, hasBase64url = Buffer?.isEncoding?.("base64url") === true;
+
+// The codes of the letters of a value.
+function codesOf(value) {
+  const { length } = value, codes = new Uint8Array(Math.ceil((length * 4) / 3)), whole = length - (length % 3);
+  let at = 0, made = 0;
+  while (at < whole) {
+    const first = value[at++], second = value[at++], third = value[at++];
+    codes[made++] = CODES[first >> 2];
+    codes[made++] = CODES[((first & 3) << 4) | (second >> 4)];
+    codes[made++] = CODES[((second & 15) << 2) | (third >> 6)];
+    codes[made++] = CODES[third & 63];
+  }
+  if (at === length) return codes;
+  const first = value[at], second = length - at === 2 ? value[at + 1] : 0;
+  codes[made++] = CODES[first >> 2];
+  codes[made++] = CODES[((first & 3) << 4) | (second >> 4)];
+  if (length - at === 2) codes[made] = CODES[(second & 15) << 2];
+  return codes;
+}
 
 /** Base64url without padding. Throws `BadInput` where the value is not a Uint8Array. */
 export function toText(value) {
   if (!isBytes(value)) throw new BadInput(`toText takes a Uint8Array, and not ${shown(value)}: write new Uint8Array(..) of an ArrayBuffer`);
-  let text = "";
-  for (let at = 0; at < value.length; at += 3) {
-    const group = (value[at] << 16) | ((value[at + 1] ?? 0) << 8) | (value[at + 2] ?? 0);
-    text += LETTERS[group >> 18] + LETTERS[(group >> 12) & 63];
-    if (at + 1 < value.length) text += LETTERS[(group >> 6) & 63];
-    if (at + 2 < value.length) text += LETTERS[group & 63];
-  }
-  return text;
+  const length = lengthOf.call(value);
+  if (length === 0) return "";
+  return hasBase64url ? Buffer.from(bufferOf.call(value), offsetOf.call(value), length).toString("base64url") : new TextDecoder().decode(codesOf(new Uint8Array(value)));
 }
 
 function sizeOf(text) {

@@ -1,9 +1,12 @@
 // The package in Node.
-import { KeptCredential, PasskeyServer, Registered, RegistrationOptions, ServerOptions, SignInOptions, SignOuts, SignedIn } from "./web.js";
+import {
+  KeptCredential, PasskeyServer, PublicKeyCredentialCreationOptionsJSON, PublicKeyCredentialRequestOptionsJSON, Registered, RegistrationOptions, ServerOptions, SignInOptions, SignedIn, WebStore,
+} from "./web.js";
 export {
-  Awaitable, BadInput, Credential, CredentialMembers, EDDSA, ES256, Ids, KeepingServer, KeptCredential, KeptMembers, MAX_LIST, MemoryStore, NoMemory,
-  OpenSession, OptionsOfBoth, PasskeyServer, RS256, Refused, Registered, RegistrationOptions, RegistrationSession, Requirement, RowDamaged, Server,
-  ServerOptions, SessionDamaged, SignInOptions, SignInSession, SignOuts, SignedIn, Store, StoreFailed, Told, Verify, coseKeyOf, credentialFromCose, fromText, isCanonical, toText,
+  AuthenticationResponseJSON, Awaitable, BadInput, Credential, CredentialMembers, EDDSA, ES256, Ids, KeepingServer, KeptCredential, KeptMembers, KeptSignIn, MAX_LIST, MemoryStore, NoMemory,
+  OpenSession, OptionsOfBoth, PasskeyServer, PublicKeyCredentialCreationOptionsJSON,
+  PublicKeyCredentialDescriptorJSON, PublicKeyCredentialRequestOptionsJSON, RS256, Refused, Registered, RegistrationOptions, RegistrationResponseJSON, RegistrationSession, Requirement, RowDamaged, Server,
+  ServerOptions, SessionDamaged, SignInOptions, SignInSession, SignedIn, Store, StoreFailed, Told, Verify, WebStore, coseKeyOf, credentialFromCose, fromText, isCanonical, toText,
 } from "./web.js";
 
 export interface StoredServerOptions extends ServerOptions {
@@ -50,17 +53,18 @@ export class StoredServer implements PasskeyServer {
   readonly rpId: string;
   readonly rpName: string;
   readonly origins: readonly string[];
-  /** In the memory of the process that has the program: when it begins anew, all sign-ins have ended. */
-  readonly signOuts: SignOuts;
+  readonly topOrigins: readonly string[];
+  /** In the memory of the process that has the program: when it begins anew, all sign-ins of `passkeys` have ended. */
+  readonly webStore: WebStore;
   /** As that of `Server`; in the profile `strict` `exclude` has at most 8 credentials. `session` is a text that only this visitor may
    *  have. Without `exclude` the account's own credentials are excluded, the first that there is room for. */
-  registerBegin(user: Uint8Array, userName: string, options?: RegistrationOptions): Promise<{ options: object; session: string }>;
+  registerBegin(user: Uint8Array, userName: string, options?: RegistrationOptions): Promise<{ options: PublicKeyCredentialCreationOptionsJSON; session: string }>;
   /** What a RegistrationResponseJSON registers. It is in the file, with its transports. Rejected by `Refused`, `BadInput` or
    *  `StoreFailed`. */
   registerComplete(session: string | null, response: unknown): Promise<Registered>;
   /** As that of `Server`, and `allow` as `exclude`. With `user` and without `allow` the account's own credentials are listed; where they
    *  are too many, any of them that the browser finds may answer. */
-  authenticateBegin(options?: SignInOptions): Promise<{ options: object; session: string }>;
+  authenticateBegin(options?: SignInOptions): Promise<{ options: PublicKeyCredentialRequestOptionsJSON; session: string }>;
   /** Who signed in, of an AuthenticationResponseJSON. Rejected as `registerComplete`. */
   authenticateComplete(session: string | null, response: unknown): Promise<SignedIn>;
   /** A credential signs in no more, and its account's open registrations end; whether it did until now. With `user` one of another account
@@ -79,6 +83,9 @@ export class StoredServer implements PasskeyServer {
   rows(user?: Uint8Array | null): Promise<KeptCredential[]>;
   /** How the site is, for a health check and for metrics. */
   status(): Promise<SiteStatus>;
+  /** `status` in the text format of Prometheus, version 0.0.4, for the answer to its request: content type `text/plain; version=0.0.4`.
+   *  Names begin with `garvoeng_`, counters end in `_total`, and refusals have the label `step`. */
+  metrics(): Promise<string>;
   /** What tells copies of the file that lack the last change that this process was told, for `atLeast`. */
   readonly known: number;
   /** Copies the file to a path of the program's machine at which nothing stands: a whole file of one moment, on the disk once this

@@ -44,7 +44,7 @@ export function keepingOver(randomBytes) {
       this.#store = store;
       this.#lifetime = checkWhole(lifetime, "lifetime, in seconds,", 1);
       this.origins = server.origins;
-      this.signOuts = Object.freeze({ add: (number, until) => this.#addSignOut(number, until), has: (number) => this.#hasSignOut(number) });
+      this.topOrigins = server.topOrigins;
     }
 
     async #begun(kind, { options, session }) {
@@ -139,15 +139,6 @@ export function keepingOver(randomBytes) {
     async abandon(session) {
       const number = checkSession(session);
       return isNumber(number) && answered("abandon", await this.#store.abandon(number), isFlag, "true or false");
-    }
-
-    // A sign-in of `garvoeng/http` that ended stands among the sessions, until it would have ended by itself.
-    async #addSignOut(number, until) {
-      if (!(await this.#hasSignOut(number))) await this.#store.begin({ number, kind: "sign_out", user: null, data: "", endsAt: Math.ceil(until / 1000) });
-    }
-
-    async #hasSignOut(number) {
-      return (await this.#session(number, "sign_out")) !== null;
     }
   };
 }

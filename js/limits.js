@@ -21,6 +21,9 @@ export const MAX_ID = 1023;
 /** The greatest signature counter (WebAuthn Level 2, section 6.1). */
 export const MAX_COUNT = 0xffffffff;
 
+/** How many seconds a visitor stays signed in, if not said. */
+export const SIGNED_IN_FOR = 14 * 24 * 3600;
+
 /** How a credential is attested, by the library's number. */
 export const FORMATS = Object.freeze(["none", "packed"]);
 

@@ -24,8 +24,8 @@ export function partyOptionsIn(options, call, { rpId, isValid, more = [] }) {
   });
 }
 
-export function registrationOptionsIn(options) {
-  return optionsIn(options, "registerBegin", OF_REGISTRATION);
+export function registrationOptionsIn(options, more = []) {
+  return optionsIn(options, "registerBegin", [...OF_REGISTRATION, ...more]);
 }
 
 export function signInOptionsIn(options) {

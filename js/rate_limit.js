@@ -1,22 +1,30 @@
 // How often a visitor may ask, by the address that asks.
-import { isIP, isIPv6 } from "node:net";
 import { BadInput } from "./errors.js";
 import { shown } from "./limits.js";
 
-// The first 64 bits of an address of IPv6, as four groups.
-function networkOf(address) {
-  const [front, back = ""] = address.split("::"), groups = front === "" ? [] : front.split(":");
-  const missing = address.includes("::") ? 8 - groups.length - (back === "" ? 0 : back.split(":").length) : 0;
-  return [...groups, ...Array(Math.max(0, missing)).fill("0"), ...back.split(":")].slice(0, 4).map((group) => parseInt(group, 16).toString(16)).join(":");
+// An address of IPv6 as its eight groups of hexadecimal digits; null of what is none.
+function groupsOf(text) {
+  if (!/^[0-9a-f:.]*:[0-9a-f:.]*$/i.test(text)) return null;
+  try {
+    const [front, back] = new URL(`http://[${text}]`).hostname.slice(1, -1).split("::").map((half) => half.split(":").filter((group) => group !== ""));
+    return back === undefined ? front : [...front, ...Array(8 - front.length - back.length).fill("0"), ...back];
+  } catch {
+    return null;
+  }
+}
+
+// An address of IPv4 in groups of IPv6; null where they are of another.
+function mappedIn(groups) {
+  if (groups.slice(0, 5).some((group) => group !== "0") || groups[5] !== "ffff") return null;
+  return groups.slice(6).flatMap((group) => [parseInt(group, 16) >> 8, parseInt(group, 16) & 255]).join(".");
 }
 
 // What an address counts as; undefined where it is not limited. A host's own word for a visitor counts as it is.
 function counted(address) {
   if (typeof address !== "string" || address === "") return undefined;
-  const [plain] = address.split("%"), mapped = /^::ffff:(\d+\.\d+\.\d+\.\d+)$/i.exec(plain)?.[1] ?? plain;
-  if (isIP(mapped) === 0) return address;
-  if (mapped === "::1" || /^127\./.test(mapped)) return undefined;
-  return isIPv6(mapped) ? networkOf(mapped) : mapped;
+  const [plain] = address.split("%"), groups = groupsOf(plain), one = groups === null ? plain : mappedIn(groups);
+  if (one !== null) return /^127(?:\.\d{1,3}){3}$/.test(one) ? undefined : groups === null ? address : one;
+  return groups.join(":") === "0:0:0:0:0:0:0:1" ? undefined : groups.slice(0, 4).join(":");
 }
 
 /** A token bucket for each address. */

@@ -1,5 +1,7 @@
 // A relying party over PostgreSQL, for Node.
-import { KeptCredential, PasskeyServer, Registered, RegistrationOptions, Server, SignInOptions, SignOuts, SignedIn } from "./index.js";
+import {
+  KeptCredential, KeptSignIn, PasskeyServer, PublicKeyCredentialCreationOptionsJSON, PublicKeyCredentialRequestOptionsJSON, Registered, RegistrationOptions, Server, SignInOptions, SignedIn, WebStore,
+} from "./index.js";
 
 /** What is asked of a connection: those of `pg`. One without `release` is ended by `end`, if it has that. */
 export interface SqlClient {
@@ -41,20 +43,24 @@ export class SqlServer implements PasskeyServer {
   /** The pool stays the host's, who ends it; or a function gives a client for each call. */
   constructor(server: Server, pool: SqlPool | (() => SqlClient | Promise<SqlClient>), options?: SqlServerOptions);
   readonly origins: readonly string[];
+  readonly topOrigins: readonly string[];
   /** In the table `garvoeng_session`. */
-  readonly signOuts: SignOuts;
+  readonly webStore: WebStore;
+  /** What `work(query)` gives, in a transaction, which is made again where another one was in its way. */
+  within<T>(work: (query: SqlQuery) => T | Promise<T>): Promise<T>;
   /** Makes the tables where they are not there; each other call does so too. Rejected by `StoreFailed`, also where they are of
    *  another version. */
   prepare(): Promise<void>;
   /** As that of `Server`. `session` is a text of 32 hex digits that only this visitor may have. Without `exclude` the account's own
-   *  credentials are excluded. */
-  registerBegin(user: Uint8Array, userName: string, options?: RegistrationOptions): Promise<{ options: object; session: string }>;
+   *  credentials are excluded. With `signIn`, the number of `webStore.keepSignIn`, the registration is that visitor's: it is finished with
+   *  the same number alone, while it is signed in. */
+  registerBegin(user: Uint8Array, userName: string, options?: RegistrationOptions & { signIn?: string | null }): Promise<{ options: PublicKeyCredentialCreationOptionsJSON; session: string }>;
   /** What a RegistrationResponseJSON registers. It is stored, and the session closed. Rejected by `Refused`, `BadInput`, `NoMemory` or
    *  `StoreFailed`. */
-  registerComplete(session: string | null, response: unknown): Promise<Registered>;
+  registerComplete(session: string | null, response: unknown, how?: { signIn?: string | null }): Promise<Registered>;
   /** As that of `Server`. With `user` and without `allow` the account's own credentials are listed; where they are more than 64, any
    *  of them that the browser finds may answer. */
-  authenticateBegin(options?: SignInOptions): Promise<{ options: object; session: string }>;
+  authenticateBegin(options?: SignInOptions): Promise<{ options: PublicKeyCredentialRequestOptionsJSON; session: string }>;
   /** Who signed in, of an AuthenticationResponseJSON. The counter is stored, and the session closed. Rejected as `registerComplete`,
    *  or by `RowDamaged`. */
   authenticateComplete(session: string | null, response: unknown): Promise<SignedIn>;
@@ -72,4 +78,17 @@ export class SqlServer implements PasskeyServer {
   abandon(session: string | null): Promise<boolean>;
   /** The credentials of a user, or all, by the second of their registration. A row that is damaged is left out, and logged. */
   rows(user?: Uint8Array | null): Promise<KeptCredential[]>;
+}
+
+/** A `WebStore` as rows in the tables of a `SqlServer`: of one that keeps the passkeys too, which `looksUp`, or beside another server. */
+export class SqlWebStore implements WebStore {
+  constructor(server: SqlServer, options?: { looksUp?: boolean });
+  readonly looksUp: boolean;
+  secret(): Promise<Uint8Array>;
+  keepSignIn(user: Uint8Array, credential?: Uint8Array | null, lifetime?: number): Promise<string>;
+  signedIn(number: string): Promise<KeptSignIn | null>;
+  abandon(number: string): Promise<boolean>;
+  names(user: Uint8Array): Promise<Map<string, string>>;
+  rename(user: Uint8Array, credential: Uint8Array, name: string): Promise<void>;
+  erase(user: Uint8Array): Promise<number>;
 }

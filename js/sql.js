@@ -1,6 +1,5 @@
 // A relying party whose sessions and credentials are rows of PostgreSQL, for sites of several machines. Each call is one transaction,
 // by the rules for rows of docs/OPERATING.md. Python's `garvoeng.sql` has the same tables.
-import { randomBytes } from "node:crypto";
 import { SessionDamaged, logTo, ofSession } from "./errors.js";
 import { toText } from "./forms.js";
 import {
@@ -10,6 +9,9 @@ import { LIFETIME, isNumber, now } from "./keeping.js";
 import { allowed, checkCredential, checkFunction, checkId, checkIds, checkSession, checkUser, checkWhole, fitting, optionsIn, shown } from "./limits.js";
 import { registrationOptionsIn, signInOptionsIn } from "./options.js";
 import { ofRow, openIn } from "./records.js";
+import { SqlWebStore, forgetName, isSignedIn, membersIn, stored } from "./sql_visitors.js";
+
+export { SqlWebStore } from "./sql_visitors.js";
 
 const VERSION = 1;
 const TABLES = [
@@ -22,9 +24,6 @@ const TABLES = [
   "create index garvoeng_session_by_expiry on garvoeng_session (expires_at)",
   `insert into garvoeng_version values (${VERSION})`,
 ];
-// Sessions that have ended go at a begin, so many at a time, and no begin waits for another's.
-const EXPIRED = `delete from garvoeng_session where id in (
-  select id from garvoeng_session where expires_at <= $1 limit 100 for update skip locked)`;
 // The SQLSTATE of a transaction that may be made again: serialization failure and deadlock.
 const RETRIED = ["40001", "40P01"];
 // How often a transaction is made where another one is in its way.
@@ -39,17 +38,8 @@ const timeOf = (value) => (value === null ? null : Number(value));
 // The number of a session, or null where a text is none.
 const numberOf = (session) => (isNumber(checkSession(session)) ? session : null);
 
-// The member that only a session of one kind has; the last are those of a sign-in which Python keeps, and of a session that is bound to one.
-const KINDS = ["algorithms", "allow", "signed_in", "sign_in"];
-
-// What a session's row says; of one that is damaged nothing.
-function sessionIn(data) {
-  try {
-    return Object(JSON.parse(data));
-  } catch {
-    return {};
-  }
-}
+// The member that only a session of one kind has; the last is that of a sign-in that is kept.
+const KINDS = ["algorithms", "allow", "signed_in"];
 
 // The credential of a row. Throws `RowDamaged`.
 function credentialOf(row) {
@@ -83,6 +73,7 @@ async function givenBack(client, isSound) {
 
 const failed = (error) => new StoreFailed(`the database failed: ${error?.message ?? shown(error)}`, { cause: error });
 const isRetried = (error) => error instanceof StoreFailed && RETRIED.includes(error.cause?.code);
+const queryOf = (run) => (text, values = []) => run(text, ...values);
 const sleep = (milliseconds) => new Promise((resolve) => setTimeout(resolve, milliseconds));
 
 /** A `Server` whose sessions and credentials are rows, over a pool of `pg`. */
@@ -103,7 +94,8 @@ export class SqlServer {
     this.#lifetime = checkWhole(lifetime, "lifetime, in seconds,", 1);
     this.#logger = checkFunction(logger, "logger", "(error) => console.error(error)");
     this.origins = server.origins;
-    this.signOuts = Object.freeze({ add: (number, until) => this.#addSignOut(number, until), has: (number) => this.#hasSignOut(number) });
+    this.topOrigins = server.topOrigins;
+    this.webStore = new SqlWebStore(this, { looksUp: true });
     // An idle connection that ends would end the process where nobody listens; the pool makes another in its place.
     if (typeof pool.listenerCount === "function" && pool.listenerCount("error") === 0) pool.on("error", () => {});
   }
@@ -162,7 +154,7 @@ export class SqlServer {
   // Calls a hook of the site's. Where it passed over an error of the database the transaction has failed, and its commit would be none.
   async #tell(name, run, told) {
     if (this.#hooks[name] === null) return;
-    await this.#hooks[name]((text, values = []) => run(text, ...values), told);
+    await this.#hooks[name](queryOf(run), told);
     await run("select 1");
   }
 
@@ -178,6 +170,10 @@ export class SqlServer {
     return this.#transaction(work);
   }
 
+  async within(work) {
+    return this.#call((run) => work(queryOf(run)));
+  }
+
   async prepare() {
     await this.#transaction(async (run) => {
       await run("select pg_advisory_xact_lock(hashtext('garvoeng'))");
@@ -188,11 +184,8 @@ export class SqlServer {
     });
   }
 
-  async #begun(run, { options, session }) {
-    const id = randomBytes(16).toString("hex");
-    await run(EXPIRED, now());
-    await run("insert into garvoeng_session values ($1, $2, $3)", id, JSON.stringify(session), now() + this.#lifetime);
-    return { options, session: id };
+  async #begun(run, { options, session }, more = {}) {
+    return { options, session: await stored(queryOf(run), { ...session.toJSON(), ...more }, this.#lifetime) };
   }
 
   // The credentials of rows. One that is damaged is left out, and logged.
@@ -217,7 +210,7 @@ export class SqlServer {
   // Ends the open registrations of an account, or all that it has open. Sessions go before credentials, in the order in which a sign-in takes them.
   async #endSessions(run, user, isOfAll = false) {
     const named = toText(user), forms = [`"user":"${named}"`, `"user": "${named}"`];
-    await run("delete from garvoeng_session where (strpos(data, $1) > 0 or strpos(data, $2) > 0) and ($3 or strpos(data, '\"algorithms\"') > 0)", ...forms, isOfAll);
+    await run("delete from garvoeng_session where (strpos(data, $1) > 0 or strpos(data, $2) > 0) and ($3 or strpos(data, '\"algorithms\":') > 0)", ...forms, isOfAll);
   }
 
   // The account of a credential; null where there is none, or it is another's than is named.
@@ -226,16 +219,16 @@ export class SqlServer {
     return row?.user_handle ?? null;
   }
 
-  // The open session of this id, whose row goes with the transaction's commit; null where there is none of this kind.
-  async #taken(run, session, kind, member) {
+  // The open session of this id, whose row goes with the transaction's commit; null where there is none of this kind, or it is bound to
+  // another sign-in than this one, or that has ended.
+  async #taken(run, session, kind, member, signIn = null) {
     if (session === null) return null;
     const { rows } = await run("delete from garvoeng_session where id = $1 and expires_at > $2 returning data", session, now());
-    if (rows.length === 0) return null;
+    const kept = rows.length === 0 ? {} : membersIn(rows[0].data);
+    if (rows.length === 0 || KINDS.some((one) => one !== member && Object.hasOwn(kept, one)) || (kept.sign_in ?? null) !== signIn) return null;
     try {
-      return ofSession(session, () => {
-        const kept = sessionIn(rows[0].data);
-        return KINDS.some((one) => one !== member && Object.hasOwn(kept, one)) ? null : openIn(kind, kept);
-      });
+      const begun = ofSession(session, () => openIn(kind, kept));
+      return (await isSignedIn(queryOf(run), begun.user, signIn)) ? begun : null;
     } catch (error) {
       if (error instanceof SessionDamaged) logTo(this.#logger, error);
       throw error;
@@ -243,17 +236,18 @@ export class SqlServer {
   }
 
   async registerBegin(user, userName, options) {
-    const { exclude, ...how } = registrationOptionsIn(options);
+    const { exclude, signIn = null, ...how } = registrationOptionsIn(options, ["signIn"]), number = checkSession(signIn);
     return this.#call(async (run) => {
+      if (!(await isSignedIn(queryOf(run), checkUser(user), number))) throw new BadInput("signIn is the number of no open sign-in of this user");
       const listed = exclude ?? fitting(await this.#ofAccount(run, user));
-      return this.#begun(run, this.#server.registerBegin(user, userName, { ...how, exclude: listed }));
+      return this.#begun(run, this.#server.registerBegin(user, userName, { ...how, exclude: listed }), number === null ? {} : { sign_in: number });
     });
   }
 
-  async registerComplete(session, response) {
-    const id = numberOf(session);
+  async registerComplete(session, response, how) {
+    const id = numberOf(session), { signIn = null } = optionsIn(how, "registerComplete", ["signIn"]), number = checkSession(signIn);
     return this.#call(async (run) => {
-      const begun = await this.#taken(run, id, RegistrationSession, "algorithms");
+      const begun = await this.#taken(run, id, RegistrationSession, "algorithms", number);
       const isRegistered = async (asked) => (await run("select 1 from garvoeng_credential where id = $1", asked)).rowCount > 0;
       const made = await this.#server.registerComplete(begun, response, { isRegistered }), { credential } = made;
       const written = await run(
@@ -296,12 +290,13 @@ export class SqlServer {
   }
 
   // Makes a change to the credential of an id, and of an account if one is named; whether there was something to change.
-  async #changed(id, user, statement) {
+  async #changed(id, user, statement, more = async () => {}) {
     const asked = [checkId(id), user === null ? null : checkUser(user)];
     return this.#call(async (run) => {
       const account = await this.#accountOf(run, ...asked);
       if (account === null) return false;
       await this.#endSessions(run, account);
+      await more(run, account);
       return (await run(statement, asked[0], account)).rowCount === 1;
     });
   }
@@ -311,7 +306,7 @@ export class SqlServer {
   }
 
   async delete(id, user = null) {
-    return this.#changed(id, user, "delete from garvoeng_credential where id = $1 and user_handle = $2");
+    return this.#changed(id, user, "delete from garvoeng_credential where id = $1 and user_handle = $2", (run, account) => forgetName(queryOf(run), account, id));
   }
 
   // Makes a change to all credentials of an account: how many were changed.
@@ -331,16 +326,6 @@ export class SqlServer {
 
   async erase(user) {
     return this.#changedAll(user, true, "delete from garvoeng_credential where user_handle = $1");
-  }
-
-  // A sign-in that ended stands among the sessions, by a name that no session has, until it would have ended by itself.
-  async #addSignOut(number, until) {
-    await this.#call((run) => run("insert into garvoeng_session values ($1, '{}', $2) on conflict do nothing", `ended ${number}`, Math.ceil(until / 1_000)));
-  }
-
-  async #hasSignOut(number) {
-    const { rowCount } = await this.#call((run) => run("select 1 from garvoeng_session where id = $1", `ended ${number}`));
-    return rowCount > 0;
   }
 
   async abandon(session) {

@@ -7,11 +7,13 @@ import {
   ALGORITHMS, MAX_LIST, MAX_STRICT_LIST, allowed, checkAlgorithms, checkFlag, checkFunction, checkId, checkIds, checkOneOf, checkParty, checkSession, checkUser, checkWhole, fitting,
   ownOf, shown, transportsIn,
 } from "./limits.js";
+import { prometheus } from "./metrics.js";
 import { isValid } from "./node_signatures.js";
 import { creationOptions, partyOptionsIn, registrationOptionsIn, requestOptions, residentKeyOf, signInOptionsIn, userVerificationOf } from "./options.js";
 import { Program } from "./program.js";
 import { Credential, KeptCredential, Registered, SignedIn } from "./records.js";
-import { Shared } from "./signouts.js";
+import { Shared } from "./shared.js";
+import { AskedWebStore } from "./site_stores.js";
 import { ProgramOfPrimary, serveWorkers } from "./workers.js";
 
 const LOGS = [false, true, "refusals", "all"];
@@ -86,6 +88,7 @@ export class StoredServer {
     this.rpId = rpId;
     this.rpName = rpName;
     this.verify = verify;
+    this.topOrigins = how.topOrigins;
     this.#known = atLeast;
     this.#mostListed = profile === "strict" ? MAX_STRICT_LIST : MAX_LIST;
     checkWhole(timeout, "timeout, in milliseconds,", 1);
@@ -98,10 +101,7 @@ export class StoredServer {
       this.#program = new Shared(new Program(words, timeout, logger));
       serveWorkers(key, this.#program);
     }
-    this.signOuts = Object.freeze({
-      add: async (number, until) => void (await this.#ask("add_sign_out", { number, until })),
-      has: async (number, at) => (await this.#ask("has_sign_out", { number, at })).has,
-    });
+    this.webStore = new AskedWebStore(async (call, ...words) => (await this.#ask("visitors", { call, words })).told);
   }
 
   async #ask(act, members = {}) {
@@ -223,6 +223,10 @@ export class StoredServer {
   async status() {
     const { status, known } = await this.#ask("status");
     return { ...status, known };
+  }
+
+  async metrics() {
+    return prometheus(await this.status());
   }
 
   async backup(path) {

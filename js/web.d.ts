@@ -16,6 +16,67 @@ export type Awaitable<T> = T | Promise<T>;
 /** `true` is `required`; `false` is `preferred` of a verification, and `discouraged` of `residentKey`. */
 export type Requirement = boolean | "required" | "preferred" | "discouraged";
 
+// The forms of JSON that pages and sites exchange (WebAuthn Level 3, sections 5.1 and 5.10), each value of bytes in base64url.
+
+export interface PublicKeyCredentialDescriptorJSON {
+  type: "public-key";
+  id: string;
+  transports?: readonly string[];
+}
+
+export interface PublicKeyCredentialCreationOptionsJSON {
+  rp: { id: string; name: string };
+  user: { id: string; name: string; displayName: string };
+  challenge: string;
+  pubKeyCredParams: { type: "public-key"; alg: number }[];
+  timeout?: number;
+  excludeCredentials: PublicKeyCredentialDescriptorJSON[];
+  authenticatorSelection: {
+    authenticatorAttachment?: "platform" | "cross-platform";
+    residentKey: "required" | "preferred" | "discouraged";
+    requireResidentKey: boolean;
+    userVerification: "required" | "preferred" | "discouraged";
+  };
+  hints?: ("security-key" | "client-device" | "hybrid")[];
+  attestation: "none" | "indirect" | "direct" | "enterprise";
+  extensions?: object;
+}
+
+export interface PublicKeyCredentialRequestOptionsJSON {
+  challenge: string;
+  timeout?: number;
+  rpId: string;
+  allowCredentials: PublicKeyCredentialDescriptorJSON[];
+  userVerification: "required" | "preferred" | "discouraged";
+  hints?: ("security-key" | "client-device" | "hybrid")[];
+  extensions?: object;
+}
+
+interface ResponseJSON<Parts> {
+  id: string;
+  rawId: string;
+  type: "public-key";
+  response: Parts;
+  authenticatorAttachment?: string | null;
+  clientExtensionResults: object;
+}
+
+export type RegistrationResponseJSON = ResponseJSON<{
+  clientDataJSON: string;
+  attestationObject: string;
+  authenticatorData?: string;
+  transports?: string[];
+  publicKey?: string;
+  publicKeyAlgorithm?: number;
+}>;
+
+export type AuthenticationResponseJSON = ResponseJSON<{
+  clientDataJSON: string;
+  authenticatorData: string;
+  signature: string;
+  userHandle?: string | null;
+}>;
+
 /** What a registration that has begun expects. It answers one response; the site deletes it then. */
 export class RegistrationSession {
   constructor(members: { challenge: Uint8Array; user: Uint8Array; userVerification?: boolean; algorithms?: readonly number[];
@@ -217,7 +278,7 @@ export class Server {
   readonly origins: readonly string[];
   /** The options for the page, PublicKeyCredentialCreationOptionsJSON, and the session that the site keeps. `user` is the user
    *  handle: 1 to 64 bytes that name nobody. */
-  registerBegin(user: Uint8Array, userName: string, options?: RegistrationOptions): { options: object; session: RegistrationSession };
+  registerBegin(user: Uint8Array, userName: string, options?: RegistrationOptions): { options: PublicKeyCredentialCreationOptionsJSON; session: RegistrationSession };
   /** What a RegistrationResponseJSON registers. `session` is null where none is open; a text counts as null. `isRegistered(id)` tells, by true or false, whether
    *  a credential has the id, to anyone, retired or not. Rejected by `Refused`, `BadInput` or `NoMemory`. */
   registerComplete(session: RegistrationSession | null, response: unknown,
@@ -226,7 +287,7 @@ export class Server {
   registerCompleteParts(session: RegistrationSession | null, parts: { attestationObject: Uint8Array; clientData: Uint8Array },
                         how: { rawId: Uint8Array; isRegistered: boolean; isFull?: boolean; transports?: readonly string[] }): Promise<Registered>;
   /** The options for the page, PublicKeyCredentialRequestOptionsJSON, and the session that the site keeps. */
-  authenticateBegin(options?: SignInOptions): { options: object; session: SignInSession };
+  authenticateBegin(options?: SignInOptions): { options: PublicKeyCredentialRequestOptionsJSON; session: SignInSession };
   /** Who signed in, of an AuthenticationResponseJSON. `credential(id)` answers the site's credential of the id, or null; it may have
    *  members of the site's own more. Rejected by `Refused`, `BadInput`, `NoMemory`, or `RowDamaged` where it is no credential. */
   authenticateComplete(session: SignInSession | null, response: unknown,
@@ -249,12 +310,34 @@ export class Server {
   signalUserDetails(user: Uint8Array, userName: string, displayName?: string): { rpId: string; userId: string; name: string; displayName: string };
 }
 
-/** Which sign-ins of `garvoeng/http` ended before their time. `number` is a text of 32 hex digits; times are milliseconds since 1970. */
-export interface SignOuts {
-  /** A sign-in has ended; this is to be known up to `until`. */
-  add(number: string, until: number): Awaitable<void>;
-  /** Whether a sign-in, which was accepted `at` that time, has ended: true or false. */
-  has(number: string, at: number): Awaitable<boolean>;
+/** A sign-in that a `WebStore` keeps. */
+export interface KeptSignIn {
+  readonly number: string;
+  readonly user: Uint8Array;
+  readonly credential: Uint8Array | null;
+  /** Seconds since 1970. */
+  readonly at: number;
+}
+
+/** What keeps who is signed in, what passkeys are called, and a secret. */
+export interface WebStore {
+  /** Whether `signedIn` finds no one whose passkey is retired or deleted; else the core asks the server. */
+  readonly looksUp: boolean;
+  /** 32 bytes that all processes of the site have, and nobody else. */
+  secret(): Awaitable<Uint8Array>;
+  /** Keeps that a visitor is signed in as this user for so many seconds: a number that nobody can guess. `credential` is null where it was by
+   *  other means than a passkey. */
+  keepSignIn(user: Uint8Array, credential: Uint8Array | null, lifetime: number): Awaitable<string>;
+  /** Who is signed in by this number, or null. */
+  signedIn(number: string): Awaitable<KeptSignIn | null>;
+  /** Ends a sign-in; whether it was there. */
+  abandon(number: string): Awaitable<boolean>;
+  /** What a user calls his passkeys, by their ids as text (`toText`). */
+  names(user: Uint8Array): Awaitable<ReadonlyMap<string, string>>;
+  /** Calls a passkey so. An empty name is none. */
+  rename(user: Uint8Array, credential: Uint8Array, name: string): Awaitable<void>;
+  /** Ends a user's sign-ins, and forgets the names: what a site calls with `erase` of the server that keeps the passkeys. */
+  erase(user: Uint8Array): Awaitable<unknown>;
 }
 
 /** What `KeepingServer`, `SqlServer` and `StoredServer` have in common. A site that is written for it changes its storage by the line that
@@ -262,14 +345,15 @@ export interface SignOuts {
  *  `BadInput`. Each call may be rejected by `StoreFailed`; of a damaged row by `RowDamaged` or `SessionDamaged`. */
 export interface PasskeyServer {
   readonly origins: readonly string[];
-  readonly signOuts: SignOuts;
+  /** The origins of the pages that may have the site's in a frame. */
+  readonly topOrigins: readonly string[];
   /** As that of `Server`. Without `exclude` the account's own credentials are excluded, the first that there is room for. */
-  registerBegin(user: Uint8Array, userName: string, options?: RegistrationOptions): Promise<{ options: object; session: string }>;
+  registerBegin(user: Uint8Array, userName: string, options?: RegistrationOptions): Promise<{ options: PublicKeyCredentialCreationOptionsJSON; session: string }>;
   /** What a RegistrationResponseJSON registers. It is stored, and the session closed. Rejected by `Refused`, `BadInput` or `NoMemory`. */
   registerComplete(session: string | null, response: unknown): Promise<Registered>;
   /** As that of `Server`. With `user` and without `allow` the account's own credentials are listed; where they are too many, any of them that
    *  the browser finds may answer. */
-  authenticateBegin(options?: SignInOptions): Promise<{ options: object; session: string }>;
+  authenticateBegin(options?: SignInOptions): Promise<{ options: PublicKeyCredentialRequestOptionsJSON; session: string }>;
   /** Who signed in, of an AuthenticationResponseJSON. The counter is stored, and the session closed. Rejected as `registerComplete`. */
   authenticateComplete(session: string | null, response: unknown): Promise<SignedIn>;
   /** The credentials of a user, or all, retired ones too, in order of registration. */
@@ -292,7 +376,7 @@ export interface PasskeyServer {
 export interface OpenSession {
   /** 32 hexadecimal digits, which only its visitor has. */
   readonly number: string;
-  readonly kind: "registration" | "sign_in" | "sign_out";
+  readonly kind: "registration" | "sign_in";
   /** The user handle, where the account is known. */
   readonly user: Uint8Array | null;
   /** A text that `session` gives back as it is. */
@@ -351,11 +435,10 @@ export class KeepingServer implements PasskeyServer {
   /** `lifetime` is how many seconds a session stays open: 300. */
   constructor(server: Server, store: Store, options?: { lifetime?: number });
   readonly origins: readonly string[];
-  /** Among the sessions of the store, as those of the kind `sign_out`. */
-  readonly signOuts: SignOuts;
-  registerBegin(user: Uint8Array, userName: string, options?: RegistrationOptions): Promise<{ options: object; session: string }>;
+  readonly topOrigins: readonly string[];
+  registerBegin(user: Uint8Array, userName: string, options?: RegistrationOptions): Promise<{ options: PublicKeyCredentialCreationOptionsJSON; session: string }>;
   registerComplete(session: string | null, response: unknown): Promise<Registered>;
-  authenticateBegin(options?: SignInOptions): Promise<{ options: object; session: string }>;
+  authenticateBegin(options?: SignInOptions): Promise<{ options: PublicKeyCredentialRequestOptionsJSON; session: string }>;
   authenticateComplete(session: string | null, response: unknown): Promise<SignedIn>;
   rows(user?: Uint8Array | null): Promise<KeptCredential[]>;
   retire(id: Uint8Array, user?: Uint8Array | null): Promise<boolean>;

@@ -2,15 +2,8 @@
 import { isValid } from "./web_signatures.js";
 import { isBytes } from "./limits.js";
 import { keepingOver } from "./keeping.js";
-import { Module } from "./module.js";
 import { helpersOver, serverOver } from "./server.js";
-
-let loaded = null;
-
-function moduleOf() {
-  if (loaded === null) throw new Error("await load() comes first");
-  return loaded;
-}
+import { moduleOf, take } from "./web_module.js";
 
 async function compiled(source) {
   if (source instanceof WebAssembly.Module) return source;
@@ -21,7 +14,7 @@ async function compiled(source) {
 
 /** Loads passkey.wasm: from beside this file, or from a URL, a `Response`, bytes or a `WebAssembly.Module`. */
 export async function load(source = new URL("./passkey.wasm", import.meta.url)) {
-  loaded = new Module(await compiled(source));
+  take(await compiled(source));
 }
 
 function randomBytes(size) {

@@ -63,15 +63,16 @@ PAGE = """(async () => {{
   return {{ tried, wrong: wrong.slice(0, 9) }};
 }})()"""
 VISIT = """(async () => {
-  const { register, signIn } = await import('/browser.js');
+  const { register, signIn } = await import('/passkeys/browser.js');
   const post = async (path, body) => {
-    const answer = await fetch(path, { method: 'POST', headers: { 'Content-Type': 'application/json' }, body: JSON.stringify(body), signal: AbortSignal.timeout(30_000) });
+    const answer = await fetch(`/passkeys/${path}`, { method: 'POST', headers: { 'Content-Type': 'application/json' }, body: JSON.stringify(body), signal: AbortSignal.timeout(30_000) });
     return { status: answer.status, ...await answer.json() };
   };
   const visit = async (act, change = (made) => made) => {
-    const options = await post(`/${act}/begin`, { name: 'ada' });
+    const options = await post(`${act}/begin`, { name: 'ada' });
     delete options.status;
-    return post(`/${act}/complete`, change(await (act === 'register' ? register : signIn)(options)));
+    const { id, ...told } = await post(`${act}/finish`, change(await (act === 'register' ? register : signIn)(options)));
+    return { user: options.user?.id, ...told };
   };
   return SCRIPT;
 })()"""
@@ -80,9 +81,9 @@ WITHOUT_END = """await (async () => {
   const counted = { accepted: 0, failed: 0, twice: 0 }, ends = Date.now() + MILLISECONDS;
   while (Date.now() < ends) {
     try {
-      const { status, ...options } = await post('/sign-in/begin', {});
+      const { status, ...options } = await post('sign-in/begin', {});
       if (status !== 200) throw new Error('no session');
-      const made = await signIn(options), answers = await Promise.all([made, made].map((one) => post('/sign-in/complete', one).catch(() => ({ status: 0 }))));
+      const made = await signIn(options), answers = await Promise.all([made, made].map((one) => post('sign-in/finish', one).catch(() => ({ status: 0 }))));
       const accepted = answers.filter((answer) => answer.status === 200).length;
       counted.accepted += accepted;
       if (accepted > 1) counted.twice++;
@@ -119,7 +120,7 @@ def in_page(opened):
 def started(site, **environment):
     """A site of four processes, which answers at its port."""
     port = free_port()
-    said = {**os.environ, "PORT": str(port), "SECRET": "a secret of thirty-two characters", **environment}
+    said = {**os.environ, "PORT": str(port), **environment}
     run = subprocess.Popen(["node", "workers.cjs", f"./{site}.cjs"], cwd=folder, env=said, stderr=subprocess.DEVNULL)
     for _ in range(1200):
         try:
@@ -142,29 +143,29 @@ def posted(port, path, body, cookie=""):
 
 def hostile_requests(site, port):
     """What no page of the site sends: a named refusal, and the site goes on."""
-    begun = posted(port, "/sign-in/begin", b"{}")
+    begun = posted(port, "/passkeys/sign-in/begin", b"{}")
     cookie = begun[2].split(";")[0]
-    other = posted(port, "/sign-in/begin", b"{}")[2].split(";")[0]
+    other = posted(port, "/passkeys/sign-in/begin", b"{}")[2].split(";")[0]
     response = {"id": "AA", "rawId": "AA", "type": "public-key", "response": {"clientDataJSON": "AA", "authenticatorData": "AA", "signature": "AA"}}
     whole = json.dumps(response).encode()
-    check(f"{site}: a response of nobody", json.loads(posted(port, "/sign-in/complete", whole, cookie)[1]).get("refusal"), "W3")
+    check(f"{site}: a response of nobody", json.loads(posted(port, "/passkeys/sign-in/finish", whole, cookie)[1]).get("refusal"), "W3")
     mixed, name = cookie[:len(cookie) // 2] + other[len(other) // 2:], cookie.split("=")[0]
     for sent in ("", f"{name}=", f"{name}=1", mixed, cookie[:-1], cookie[:-2] + "AA", cookie.replace("sign_in", "registration"), f"{name}=" + "A" * 4000, f"{name}=%"):
-        status, said, _ = posted(port, "/sign-in/complete", whole, sent)
+        status, said, _ = posted(port, "/passkeys/sign-in/finish", whole, sent)
         check(f"{site}: the cookie {sent[:40]}", (status, json.loads(said).get("refusal")), (403, "W1"))
-    for path in ("/register/begin", "/register/complete", "/sign-in/complete"):
+    for path in ("/passkeys/register/begin", "/passkeys/register/finish", "/passkeys/sign-in/finish"):
         for body in (b"", b"null", b"[]", b"7", b'"x"', b"{", b"\xff", b'{"name":{"toString":1}}', b'{"name":null}', b"<script>", b"[" * 50_000, b'{"__proto__":{}}',
                      b'{"name":"\\ud800"}', b'{"name":1e999}', b'{"id":' + b"[" * 60_000 + b"]" * 60_000 + b"}", b"A" * 140_000, json.dumps({"name": "A" * 70_000}).encode()):
             status, said, _ = posted(port, path, body, cookie)
             check(f"{site}: {path} {body[:20]}", (status, list(json.loads(said))), (400, ["error"]))
-    check(f"{site}: no such page", posted(port, "/toString", b"{}")[0], 404)
-    check(f"{site}: it goes on", posted(port, "/sign-in/begin", b"{}")[0], 200)
+    check(f"{site}: no such page", posted(port, "/passkeys/toString", b"{}")[0], 404)
+    check(f"{site}: it goes on", posted(port, "/passkeys/sign-in/begin", b"{}")[0], 200)
 
 
 def visits(opened, site, port):
     """Acts of the page, and of its script."""
     origin = f"http://localhost:{port}/"
-    opened.open(origin + "browser.js")  # Where nothing asks for autofill.
+    opened.open(origin + "passkeys/browser.js")  # Where nothing asks for autofill.
     key = opened.authenticator()
     run = lambda script: opened.run(VISIT.replace("SCRIPT", script))  # noqa: E731
     made, transports = run("await (async () => { let kept; return [await visit('register', (one) => (kept = one)), kept.response.transports]; })()")
@@ -175,9 +176,9 @@ def visits(opened, site, port):
     check(f"{site}: another signature", (wrong.get("status"), wrong.get("refusal")), (403, "W14"))
     account = "await (async () => { const answer = await fetch('/account'); return [answer.status, await answer.text()]; })()"
     check(f"{site}: whose account it is", run(account), [200, made.get("user")])
-    check(f"{site}: signed out", (run("await post('/sign-out', {})"), run(account)), ({"status": 200}, [401, "nobody is signed in"]))
+    check(f"{site}: signed out", (run("await post('sign-out', {})"), run(account)), ({"status": 200}, [401, "nobody is signed in"]))
     twice = run("await (async () => { let kept; const first = await visit('sign-in', (made) => (kept = made));"
-                " return [first, await post('/sign-in/complete', kept)]; })()")
+                " return [first, await post('sign-in/finish', kept)]; })()")
     check(f"{site}: once", (twice[0], twice[1].get("refusal")), (made, "W1"))
     check(f"{site}: a page of old", opened.run(OLD), "undefined")
     check(f"{site}: its sign-in", run("await visit('sign-in')"), made)
@@ -190,10 +191,10 @@ def visits(opened, site, port):
     key = opened.authenticator()
     second = run("await visit('register')")
     check(f"{site}: its registration, of the same account", (second, run("await visit('sign-in')")), (made, made))
-    listed = run("await (async () => { let kept; await post('/sign-out', {}); await visit('register', (made) => (kept = made));"
+    listed = run("await (async () => { let kept; await post('sign-out', {}); await visit('register', (made) => (kept = made));"
                  " const named = (error) => error.name, list = (id) => [{ type: 'public-key', id }];"
-                 " const again = { ...await post('/register/begin', { name: 'ada' }), excludeCredentials: list(kept.id) };"
-                 " const other = { ...await post('/sign-in/begin', {}), allowCredentials: list('AAAA'), timeout: 500 };"
+                 " const again = { ...await post('register/begin', { name: 'ada' }), excludeCredentials: list(kept.id) };"
+                 " const other = { ...await post('sign-in/begin', {}), allowCredentials: list('AAAA'), timeout: 500 };"
                  " const own = { ...other, allowCredentials: list(kept.id) };"
                  " return [await register(again).catch(named), (await signIn(own)).id === kept.id, await signIn(other).catch(named), kept.response.transports]; })()")
     check(f"{site}: its lists", listed, ["InvalidStateError", True, "NotAllowedError", transports])
@@ -215,9 +216,33 @@ def visits(opened, site, port):
     click = "(async () => {{ document.getElementById('{0}').click(); const said = () => document.getElementById('said').textContent;" \
             " for (let n = 0; n < 500 && !said().startsWith('{0}: '); n++) await new Promise((done) => setTimeout(done, 50)); return said(); }})()"
     first = opened.run(click.format("register"))
-    check(f"{site}: the page registers", len(first), len("register: ") + 43)
-    check(f"{site}: the page signs in", opened.run(click.format("sign-in")), first.replace("register", "sign-in"))
-    check(f"{site}: autofill is asked for", run("await (await import('/browser.js')).canAutofill()") in (True, False))
+    check(f"{site}: the page registers", (first.startswith("register: "), len(first) >= len("register: ") + 22), (True, True))
+    check(f"{site}: the page signs in", opened.run(click.format("sign-in")), f"sign-in: {run(account)[1]}")
+    check(f"{site}: autofill is asked for", run("await (await import('/passkeys/browser.js')).canAutofill()") in (True, False))
+    opened.without(key)
+    own_page(opened, site, origin)
+
+
+# Clicks an element of the core's page, and waits for what is said and for its list.
+CLICK = """(async () => { const element = (id) => document.getElementById(id), lines = () => [...document.querySelectorAll('#passkeys li')], buttons = () => document.querySelectorAll('#passkeys button');
+element('name').value = 'ada'; element('said').textContent = ''; WHAT.click();
+for (let n = 0; n < 400 && (element('said').textContent === '' || !(LISTED)); n++) await new Promise((done) => setTimeout(done, 50));
+return [element('said').textContent, lines().length, lines().map((one) => one.firstChild.data).join()]; })()"""
+
+
+def own_page(opened, site, origin):
+    """The page that the core has, with its script and its policy."""
+    clicked = lambda what, count, listed="true": opened.run(CLICK.replace("WHAT", what).replace("LISTED", f"lines().length === {count} && {listed}"))  # noqa: E731
+    opened.open(origin + "passkeys/")
+    key = opened.authenticator()
+    check(f"{site}: the core's page signs out", clicked("element('sign-out')", 0)[:2], ["signed out", 0])
+    check(f"{site}: it registers", clicked("element('register')", 1)[:2], ["registered", 1])
+    said, count, line = clicked("(document.querySelector('#passkeys input').value = 'blue', buttons()[0])", 1, "lines()[0].firstChild.data.startsWith('blue, ')")
+    check(f"{site}: it names a passkey", (said, count, line.startswith("blue, ")), ("renamed", 1, True))
+    opened.open(origin + "passkeys")
+    check(f"{site}: it signs in, and has its scripts without a slash at the end", clicked("element('sign-in')", 1)[:2], ["signed in", 1])
+    check(f"{site}: it retires, and who came in by that is out", clicked("buttons()[1]", 0)[:2], ["retired", 0])
+    check(f"{site}: who comes in no more", clicked("element('sign-in')", 0)[0] not in ("", "signed in"))
     opened.without(key)
 
 
@@ -249,7 +274,7 @@ def kills(primary, port, ended, killed):
 
 
 def visits_while_killed(opened, site, port, primary):
-    opened.open(f"http://localhost:{port}/browser.js")
+    opened.open(f"http://localhost:{port}/passkeys/browser.js")
     key = opened.authenticator()
     run = lambda script: opened.run(VISIT.replace("SCRIPT", script))  # noqa: E731
     made, killed, ended = run("await visit('register')"), [], threading.Event()

@@ -1,10 +1,9 @@
-// `KeepingServer` over stores that answer what is no answer, that fail, and that change between the verdict and the write; and as what
-// answers the requests of pages. Python's test_keeping.py has the same.
+// `KeepingServer` over stores that answer what is no answer, that fail, and that change between the verdict and the write. Python's
+// test_keeping.py has the same.
 import assert from "node:assert/strict";
 import { test } from "node:test";
-import { BadInput, KeepingServer, KeptCredential, MemoryStore, Refused, RowDamaged, Server, SessionDamaged, StoreFailed, fromText, toText } from "garvoeng";
+import { BadInput, KeepingServer, KeptCredential, MemoryStore, RowDamaged, Server, SessionDamaged, StoreFailed, toText } from "garvoeng";
 import { Device } from "./device.mjs";
-import { both, own, pair, serving, visit } from "./visits.mjs";
 
 const user = Buffer.from("account 7"), CALLS = ["begin", "session", "register", "signIn", "abandon", "row", "rows", "retire", "retireAll", "delete", "erase"];
 const party = (host = "example.com", origin = "https://example.com") => new Server(host, [origin]);
@@ -150,16 +149,4 @@ test("sessions that have ended go at a begin", async (context) => {
   Date.now = () => now() + 5_000;
   assert.equal(await server.abandon((await server.authenticateBegin()).session), true);
   assert.equal(store.session(session), null);
-});
-
-test("over `garvoeng/http`: sign-outs are kept in the store", async (context) => {
-  const store = new MemoryStore(), make = () => new KeepingServer(party("localhost", "http://localhost"), store), served = await serving(context, make());
-  const device = own("key"), made = await visit(served, "register", device), cookie = pair(made.cookie), isIn = async ({ site: one }, kept) => (await one.signedIn({ headers: { cookie: kept } })) !== null;
-  assert.deepEqual([made.status, await isIn(served, cookie)], [200, true]);
-  const signed = await visit(served, "sign-in", device, { user: fromText(made.told.user), before: cookie }), another = await serving(context, make());
-  assert.deepEqual([signed.status, await isIn(served, cookie), await isIn(another, pair(signed.cookie))], [200, false, true]);
-  for (let time = 0; time < 2; time++) assert.equal((await served.post("/sign-out", "{}", both(pair(signed.cookie), cookie))).status, 200);
-  assert.deepEqual([await isIn(another, pair(signed.cookie)), await isIn(served, pair(signed.cookie))], [false, false]);
-  assert.equal((await served.post("/sign-in/complete", "{}")).status, 400);
-  assert.ok((await served.post("/sign-in/complete", JSON.stringify(device.signIn({ challenge: "AA" })))).told.refusal === "W1" && Refused);
 });

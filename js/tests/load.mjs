@@ -42,7 +42,7 @@ const ANSWERS = [200, 400, 403];
 async function post(path, body, cookie = "") {
   const began = performance.now();
   try {
-    const answer = await fetch(origin + path, { method: "POST", headers: { "Content-Type": "application/json", cookie }, body: JSON.stringify(body), signal: AbortSignal.timeout(20_000) });
+    const answer = await fetch(`${origin}/passkeys/${path}`, { method: "POST", headers: { "Content-Type": "application/json", cookie }, body: JSON.stringify(body), signal: AbortSignal.timeout(20_000) });
     const told = await answer.json();
     taken.push(performance.now() - began);
     if (ANSWERS.includes(answer.status)) answered++;
@@ -71,14 +71,14 @@ async function visit(index) {
   const device = new Device(undefined, { id: Buffer.from(`${process.pid} ${index}`), rpId: "localhost", origin });
   let user = null, last = -1;
   while (user === null) {
-    const begun = await asked("/register/begin", { name: "ada" }), made = await post("/register/complete", device.register(begun.told), begun.cookie);
-    if (made.status === 200) user = made.told.user;
+    const begun = await asked("register/begin", { name: "ada" }), made = await post("register/finish", device.register(begun.told), begun.cookie);
+    if (made.status === 200) user = begun.told.user.id;
     // A registration whose answer was lost is there or is not: a key of another id is registered.
     else device.id = Buffer.concat([device.id, Buffer.from("'")]);
   }
   const handle = Buffer.from(user, "base64url"), signIn = async (times) => {
-    const begun = await asked("/sign-in/begin", {}), response = device.signIn(begun.told, { user: handle });
-    const answers = await Promise.all(Array.from({ length: times }, () => post("/sign-in/complete", response, begun.cookie)));
+    const begun = await asked("sign-in/begin", {}), response = device.signIn(begun.told, { user: handle });
+    const answers = await Promise.all(Array.from({ length: times }, () => post("sign-in/finish", response, begun.cookie)));
     return answers.map(kindOf);
   };
   let next = Date.now() + (pause * index) / VISITORS;

@@ -1,12 +1,14 @@
 // What hosts write wrong: flags that are none, options that no call has, values that look-ups answer; and what each error says to write.
 // Classes and bytes of another copy, and what another program adds to Object.prototype.
 import assert from "node:assert/strict";
+import { readdirSync } from "node:fs";
 import { createRequire } from "node:module";
 import { test } from "node:test";
+import { fileURLToPath } from "node:url";
 import { runInNewContext } from "node:vm";
 import * as own from "garvoeng";
 import { passkeys } from "garvoeng/http";
-import { SqlServer } from "garvoeng/sql";
+import { SqlServer, SqlWebStore } from "garvoeng/sql";
 import { Device } from "./device.mjs";
 
 const { BadInput, Credential, Refused, RegistrationSession, RowDamaged, Server, SignInSession, StoredServer, credentialFromCose, fromText, toText } = own;
@@ -50,7 +52,6 @@ test("flags are true or false alone", async () => {
     ["retired", (value) => new Credential({ ...members, retired: value })], ["eligible", (value) => value === null || new Credential({ ...members, eligible: value })],
     ["retired", (value) => credentialFromCose({ id, user, coseKey: device.coseKey(), signCount: 0, retired: value })],
     ["retired", (value) => value === null || server.signalAllAccepted(user, [{ id, retired: value }])],
-    ["secure", (value) => passkeys(stored, { secret, secure: value })],
   ];
   for (const [name, call] of rows)
     for (const value of NO_FLAGS) {
@@ -84,7 +85,8 @@ test("an option that no call has is named", async () => {
   const { device, begun, session, options } = await visitor(), response = device.register(begun.options);
   const rows = [
     ["topOrigin", (how) => new Server("example.com", origins, how)], ["isExisting", (how) => new StoredServer("p", "f", "example.com", origins, how)],
-    ["lifeTime", (how) => new SqlServer(server, pool, how)], ["secrets", (how) => passkeys(stored, { secret, ...how })],
+    ["lifeTime", (how) => new SqlServer(server, pool, how)], ["signOuts", (how) => passkeys(stored, { secret, ...how })], ["secure", (how) => passkeys(stored, how)],
+    ["signin", (how) => sql.registerBegin(user, "name", how)], ["signIn", (how) => stored.registerBegin(user, "name", how)], ["signIn", (how) => server.registerBegin(user, "name", how)],
     ["userVerfication", (how) => server.registerBegin(user, "name", how)], ["excludeCredentials", (how) => server.registerBegin(user, "name", how)],
     ["excludeCredentials", (how) => stored.registerBegin(user, "name", how)], ["excludeCredentials", (how) => sql.registerBegin(user, "name", how)],
     ["allowCredentials", (how) => server.authenticateBegin(how)], ["allowCredentials", (how) => stored.authenticateBegin(how)], ["allowCredentials", (how) => sql.authenticateBegin(how)],
@@ -122,7 +124,7 @@ test("what stands in Object.prototype is no option, no member, and ends no sign-
   const added = {
     conditional: true, profile: "open", userVerification: "required", acceptNone: false, isFull: true, retired: true, eligible: true, verify: () => true, exclude: [id], allow: [id],
     timeout: 5, transports: ["usb"], clientExtensionResults: 7, authenticatorAttachment: 7, userHandle: "AAAA", rawId: id, isRegistered: false, error: "x", failed: "x", zzz: { enumerable: true }, attestation: "direct", displayName: "x", authenticatorSelection: 7,
-    rpName: "x", secret: "t".repeat(32), signOuts: {}, lifetime: 9, accepted: {}, data: "x", user: "AAAA", user_verification: true,
+    rpName: "x", secret: "t".repeat(32), webStore: {}, signIn: "x", lifetime: 9, accepted: {}, data: "x", user: "AAAA", user_verification: true,
   };
   const { device } = await visitor(), other = new Device(undefined, { id: Buffer.from("other") });
   await withPrototype(added, async () => {
@@ -203,16 +205,25 @@ test("an error says what to write", async () => {
     [() => new StoredServer("p", "f", "example.com", origins, { lifetime: "300" }), /^lifetime is "300": write a whole number from 1 on$/],
     [() => new SqlServer(pool, server), /^a SqlServer is over a Server: write new SqlServer\(new Server\(\.\.\), pool\)$/],
     [() => new SqlServer(server, "postgresql://"), /^a SqlServer is over a pool of pg/], [() => sql.abandon(7), /^session is 7: write the text that the begin gave, or null$/],
-    [() => passkeys(server, { secret }), /^passkeys is over a server that keeps rows, and this one does not: write a StoredServer, new SqlServer/],
-    [() => passkeys(stored, { secret: "short" }), /^secret is too short: write a text of 32 random characters or more$/],
-    [() => passkeys(stored), /^secret is undefined: write a text of 32/],
-    [() => passkeys(stored, { secret }).signedIn(new Request("https://example.com")), /^the request is one of fetch: hand in that of node:http or of Express, or \{ headers: \{ cookie: request\.headers\.get/],
-    [() => passkeys(stored, { secret }).signedIn(), /^the request is undefined: hand in/], [() => passkeys(stored, { secret })(new Request("https://example.com")), /^the request is one of fetch/],
+    [() => passkeys(stored, { secret: "short" }), /^secret is too short: write 32 random characters or more$/], [() => passkeys(stored, { secret: null }), /^secret is null: write 32/],
+    [() => passkeys(stored).signedIn(new Request("https://example.com")), /^the request is one of fetch: passkeys of garvoeng\/site takes it$/], [() => passkeys(stored).signedIn(), /^the request is undefined: hand in that of the framework$/],
+    [() => passkeys(stored, { base: "passkeys/" }), /^base is "passkeys\/": write the path below which the acts stand, as "\/passkeys"$/],
+    [() => passkeys(stored, { registration: { exclude: [] } }), /^exclude of registration is the core's$/], [() => new SqlWebStore(server), /^a SqlWebStore is over a SqlServer: write new SqlWebStore/],
     [() => toText("AAAA"), /^toText takes a Uint8Array, and not "AAAA": write new Uint8Array\(\.\.\) of an ArrayBuffer$/],
   ];
   for (const [call, wanted] of rows) {
     const error = await said(call);
     assert.ok((error instanceof BadInput || error instanceof RowDamaged) && wanted.test(error.message), `${call}: ${error}`);
+  }
+});
+
+test("each module of CommonJS exports what that of ES modules does", async () => {
+  const folder = new URL("../node_modules/garvoeng/", import.meta.url), names = readdirSync(new URL("cjs/", folder)).filter((name) => name.endsWith(".cjs"));
+  assert.ok(names.length > 30);
+  for (const name of names) {
+    const made = createRequire(import.meta.url)(fileURLToPath(new URL(`cjs/${name}`, folder))), module = await import(new URL(name.replace(".cjs", ".js"), folder));
+    assert.deepEqual(Object.keys(made).sort(), Object.keys(module).sort(), name);
+    for (const [member, value] of Object.entries(module)) assert.equal(typeof made[member], typeof value, `${member} of ${name}`);
   }
 });
 

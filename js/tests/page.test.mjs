@@ -2,7 +2,7 @@
 import assert from "node:assert/strict";
 import { readFileSync } from "node:fs";
 import { afterEach, test } from "node:test";
-import { autofill, canAutofill, isSupported, register, signIn } from "garvoeng/browser";
+import { autofill, canAutofill, isSupported, register, signIn, signalAllAccepted, signalUnknownCredential, signalUserDetails } from "garvoeng/browser";
 
 const CREATION = { challenge: "AAAA", user: { id: "AQ", name: "ada" } }, REQUEST = { challenge: "AAAA", rpId: "localhost" };
 const made = { toJSON: () => ({ id: "AQ" }) }, sleep = (milliseconds) => new Promise((resolve) => setTimeout(resolve, milliseconds));
@@ -43,6 +43,18 @@ test("mediation is handed on, at a registration too", async () => {
   assert.deepEqual(asked, [["create", "conditional", true], ["create", undefined, true], ["get", "silent", true], ["get", undefined, true]]);
 });
 
+test("what authenticators are told, where the browser has that", async () => {
+  const told = { rpId: "localhost" }, calls = [["signalUnknownCredential", signalUnknownCredential], ["signalAllAcceptedCredentials", signalAllAccepted], ["signalCurrentUserDetails", signalUserDetails]], heard = [];
+  for (const [, call] of calls) assert.equal(await call(told), false, "no passkeys");
+  browser();
+  for (const [, call] of calls) assert.equal(await call(told), false, "no such call");
+  for (const [name] of calls) PublicKeyCredential[name] = async (one) => void heard.push([name, one]);
+  for (const [, call] of calls) assert.equal(await call(told), true);
+  assert.deepEqual(heard, calls.map(([name]) => [name, told]));
+  PublicKeyCredential.signalUnknownCredential = () => Promise.reject(new TypeError("no base64url"));
+  await assert.rejects(signalUnknownCredential(told), TypeError);
+});
+
 test("autofill asks anew for options before they are old, and ends by its signal or by another call", async () => {
   let begins = 0;
   const begin = async () => (begins++, REQUEST);
@@ -77,14 +89,14 @@ test("the page begins anew where the session of its autofill had ended", async (
   given("document", { getElementById: (name) => (elements[name] ??= { value: "ada", textContent: "" }) });
   given("fetch", async (path) => {
     paths.push(path);
-    const [status, told] = path.endsWith("/begin") ? [200, path.startsWith("/sign-in") ? REQUEST : CREATION] : answers.shift();
+    const [status, told] = path.endsWith("/begin") ? [200, path.startsWith("/passkeys/sign-in") ? REQUEST : CREATION] : answers.shift();
     return { ok: status === 200, json: async () => told };
   });
-  const [, script] = /<script type="module">\nimport \{[^}]*\} from "\/browser\.js";\n([^]*)<\/script>/.exec(readFileSync(new URL("../page.html", import.meta.url), "utf8"));
+  const [, script] = /<script type="module">\nimport \{[^}]*\} from "\/passkeys\/browser\.js";\n([^]*)<\/script>/.exec(readFileSync(new URL("../page.html", import.meta.url), "utf8"));
   const run = Object.getPrototypeOf(async () => {}).constructor;
   await new run("autofill", "canAutofill", "register", "signIn", script)(autofill, canAutofill, register, signIn);
   await sleep(50);
-  assert.deepEqual(paths, Array(3).fill(["/sign-in/begin", "/sign-in/complete"]).flat());
+  assert.deepEqual(paths, Array(3).fill(["/passkeys/sign-in/begin", "/passkeys/sign-in/finish"]).flat());
   assert.equal(elements.said.textContent, "sign-in: QQ");
   answers.push([200, { user: "QQ" }], [403, { error: "WrongOrigin: no", refusal: "W8" }]);
   await elements.register.onclick();

@@ -200,7 +200,7 @@ test("what another program added to Object.prototype is no answer", async () => 
   Object.assign(Object.prototype, added);
   try {
     await registered(server, device);
-    assert.equal(await server.signOuts.has("none", Date.now() + 60_000), false);
+    assert.equal(await server.webStore.signedIn("none"), null);
     const { options, session } = await server.authenticateBegin({ user });
     await assert.rejects(server.authenticateComplete(`${session}A`, device.signIn(options)), { name: "W1" });
     assert.equal((await server.authenticateComplete(session, device.signIn(options))).credential.signCount, 2);
@@ -271,6 +271,10 @@ test("what the server takes", async () => {
   assert.deepEqual([await one.delete(id), await one.delete(id), (await one.rows()).length], [true, false, 0]);
   const { credentials, registrations, registrations_refused: refused } = await one.status();
   assert.deepEqual([credentials, registrations, refused], [0, 1, { G16: 1 }]);
+  const metrics = await one.metrics();
+  assert.match(metrics, /^# TYPE garvoeng_info gauge\ngarvoeng_info\{version="[^"]+"\} 1\n# TYPE garvoeng_credentials gauge\ngarvoeng_credentials 0\n/);
+  assert.match(metrics, /\ngarvoeng_registrations_total 1\n/);
+  assert.match(metrics, /\ngarvoeng_registrations_refused_total\{step="G16"\} 1\n$/);
   const { known } = one;
   assert.deepEqual([(await one.status()).known, known > 0], [known, true]);
   await one.close();

@@ -1,5 +1,8 @@
 // What hosts write, as TypeScript sees it: checked by tsc --strict, and not run.
-import { BadInput, Credential, NoMemory, Refused, Server, SignInSession, fromText, toText } from "garvoeng";
+import {
+  AuthenticationResponseJSON, BadInput, Credential, NoMemory, PublicKeyCredentialCreationOptionsJSON, PublicKeyCredentialRequestOptionsJSON, Refused, RegistrationResponseJSON, Server,
+  SignInSession, fromText, toText,
+} from "garvoeng";
 
 const table = new Map<string, Credential>();
 const server: Server = new Server("example.com", ["https://example.com"], { rpName: "A site", verify: async () => true });
@@ -22,7 +25,12 @@ export async function signsIn(kept: string, response: unknown): Promise<Uint8Arr
   }
 }
 
-server.authenticateBegin({ userVerification: true });
+const asked: PublicKeyCredentialRequestOptionsJSON = server.authenticateBegin({ userVerification: true }).options;
+const begun: PublicKeyCredentialCreationOptionsJSON = server.registerBegin(new Uint8Array(1), "name").options;
+export const parts = (made: RegistrationResponseJSON, signed: AuthenticationResponseJSON): (string | undefined)[] =>
+  [asked.challenge, begun.excludeCredentials[0]?.id, made.response.transports?.[0], signed.response.userHandle ?? undefined];
+// @ts-expect-error: a challenge is text
+asked.challenge = new Uint8Array(32);
 // @ts-expect-error: user verification is true, false or one of three texts
 server.authenticateBegin({ userVerification: "yes" });
 // @ts-expect-error: a user handle is bytes

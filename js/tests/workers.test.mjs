@@ -76,28 +76,33 @@ if (cluster.isPrimary) {
   assert.deepEqual(lines.at(-1), { rows: [0, 1, 2, 3].map((count) => [`key ${count}`, 40]) });
 });
 
-test("workers share which sign-ins ended, and each has the answer that it asked for", async () => {
+test("workers share who is signed in, and each has the answer that it asked for", async () => {
   const run = apart("shared", `
-const server = serving(), at = Date.now() + 60_000;
+const server = serving(), store = server.webStore, user = Buffer.from("account 7"), [name, names] = ["blue", async () => [...(await store.names(user))]];
 if (cluster.isPrimary) {
   const workers = [cluster.fork({ FIRST: "1" }), cluster.fork()];
+  let number = null, tell = null;
+  workers[0].on("message", (message) => typeof message === "string" && ((number = message), tell?.()));
+  workers[1].on("message", (message) => message === "which?" && ((tell = () => workers[1].send(number)), number === null || tell()));
   workers[1].on("exit", async () => {
-    console.log(JSON.stringify([await server.signOuts.has("one", at), await server.signOuts.has("two", at)]));
+    console.log(JSON.stringify([(await names()).length, await store.abandon("0".repeat(32))]));
     await server.close();
   });
 } else if (process.env.FIRST) {
-  await server.signOuts.add("one", at);
-  process.exit(0);
+  await store.rename(user, Buffer.from("x"), name);
+  process.send(await store.keepSignIn(user, Buffer.from("x"), 60), () => process.exit(0));
 } else {
-  for (let time = 0; time < 3_000 && !(await server.signOuts.has("one", at)); time++) await new Promise((resolve) => setTimeout(resolve, 20));
-  const answers = await Promise.all([server.rows(), server.registerBegin(Buffer.from("a"), "A".repeat(70_000), { exclude: [] }).catch(({ name }) => name), server.signOuts.has("one", at), server.signOuts.has("two", at), server.signOuts.has("two", 5)]);
-  console.log(JSON.stringify(answers));
+  const number = await new Promise((resolve) => (process.on("message", (message) => typeof message === "string" && resolve(message)), process.send("which?")));
+  const rows = server.rows(), tooLong = server.registerBegin(user, "A".repeat(70_000), { exclude: [] }).catch(({ name }) => name), found = store.signedIn(number), none = store.signedIn("x");
+  const answers = await Promise.all([rows, tooLong, found.then((one) => [Buffer.from(one.user).toString(), Buffer.from(one.credential).toString(), one.number === number]), none, names()]);
+  console.log(JSON.stringify([...answers, await store.abandon(number), await store.signedIn(number), (await store.secret()).length]));
   process.env.pm_id = "0";
   try { serving(); } catch (error) { console.log(JSON.stringify([error.name, error.message.includes("PM2")])); }
   process.exit(0);
 }`);
   await run.ended;
-  assert.deepEqual(run.lines().map((line) => JSON.parse(line)), [[[], "BadInput", true, false, true], ["BadInput", true], [true, false]]);
+  assert.deepEqual(run.lines().map((line) => JSON.parse(line)),
+                   [[[], "BadInput", ["account 7", "x", true], null, [["eA", "blue"]], true, null, 32], ["BadInput", true], [1, false]]);
 });
 
 test("a worker whose primary ended or whose program was killed", async () => {

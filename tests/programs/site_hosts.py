@@ -172,14 +172,38 @@ for await (const line of createInterface({ input: process.stdin })) {
 }
 site.end();
 """
+# The seconds that addresses have to wait after so many posts: of each line [ADDRESS, SECOND] of the first argument.
+NODE_WAITS = """import { wait } from "SITE";
+console.log(JSON.stringify(JSON.parse(process.argv[2]).map(([address, second]) => wait(address, second))));
+"""
 GO = """package main
 
 import (
 	"encoding/json"
 	"os"
+	"time"
 )
 
+func waits(text string) {
+	posts, found, kept := [][]interface{}{}, []int{}, limit{}
+	if err := json.Unmarshal([]byte(text), &posts); err != nil {
+		panic(err)
+	}
+	for _, post := range posts {
+		address := post[0].(string)
+		if address != "" {
+			address = "[" + address + "]:1"
+		}
+		found = append(found, kept.wait(address, time.UnixMilli(int64(post[1].(float64)*1000))))
+	}
+	json.NewEncoder(os.Stdout).Encode(found)
+}
+
 func main() {
+	if len(os.Args) == 3 && os.Args[1] == "waits" {
+		waits(os.Args[2])
+		return
+	}
 	host := &site{words: os.Args[1:]}
 	lines := json.NewDecoder(os.Stdin)
 	lines.UseNumber()
@@ -219,14 +243,15 @@ def hosts_here(tests):
         folder.mkdir()
         if tool == "node":
             (folder / "finishes.mjs").write_text(NODE.replace("SITE", str(lines / "site.mjs")))
-            yield tool, ["node", str(folder / "finishes.mjs")], ["node", str(lines / "site.mjs")]
+            (folder / "waits.mjs").write_text(NODE_WAITS.replace("SITE", str(lines / "site.mjs")))
+            yield tool, ["node", str(folder / "finishes.mjs")], ["node", str(lines / "site.mjs")], ["node", str(folder / "waits.mjs")]
         else:
             room = {**os.environ, "GO111MODULE": "off", "GOCACHE": tests.file("go"), "HOME": tests.folder.name}
             (folder / "main.go").write_text(GO)
             (folder / "site.go").write_text((lines / "site.go").read_text().replace("func main() {", "func serve() {"))
             for name, sources in (("finishes", ["main.go", "site.go"]), ("serve", [str(lines / "site.go")])):
                 subprocess.run(["go", "build", "-o", name, *sources], cwd=folder, env=room, check=True, timeout=300)
-            yield tool, [str(folder / "finishes")], [str(folder / "serve")]
+            yield tool, [str(folder / "finishes")], [str(folder / "serve")], [str(folder / "finishes"), "waits"]
 
 
 def of_a_browser(tests, tool, words):
@@ -347,10 +372,22 @@ def served(tests, tool, words):
     file.close()
 
 
+def limited(tests, tool, words):
+    """How long an address waits: 50 posts at once, then 5 a second, each address by itself, also where the clock is set back. This
+    machine's own wait never."""
+    posts = [*[["203.0.113.7", 1000]] * 51, ["198.51.100.1", 1000], ["2001:db8::1", 1000], ["203.0.113.7", 1000.1], ["203.0.113.7", 1000.3],
+             ["203.0.113.7", 900], *[["203.0.113.7", 1100]] * 51, *[["127.0.0.1", 1000]] * 60, *[["::1", 1000]] * 60,
+             *[["::ffff:127.0.0.1", 1000]] * 60, *[["", 1000]] * 60]
+    wanted = [*[0] * 50, 1, 0, 0, 1, 0, 1, *[0] * 50, 1, *[0] * 240]
+    done = subprocess.run([*words, json.dumps(posts)], capture_output=True, text=True, timeout=300)
+    tests.check(f"{tool}: who posts too often waits {done.stderr[-300:]}", json.loads(done.stdout), wanted)
+
+
 def other_hosts(tests):
-    for tool, finishes, serves in hosts_here(tests):
+    for tool, finishes, serves, waits in hosts_here(tests):
         of_a_browser(tests, tool, finishes)
         served(tests, tool, serves)
+        limited(tests, tool, waits)
 
 
 def lives(server, number, times, wrong, algorithm):

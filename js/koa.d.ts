@@ -1,0 +1,25 @@
+// The requests of a site with passkeys, for Koa. It is tested over what it asks of Koa, which stands here, and not with Koa itself where that is not
+// installed.
+import { PasskeyServer } from "./index.js";
+import { Calls, PasskeysOptions } from "./site.js";
+
+/** What is asked of a context. */
+export interface SiteContext {
+  readonly req: { readonly headers: { readonly [name: string]: string | string[] | undefined } };
+  readonly request: object;
+  readonly originalUrl: string;
+  readonly ip: string;
+  status: number;
+  body: unknown;
+  set(name: string, value: string): unknown;
+  append(name: string, value: string): unknown;
+}
+
+/** Answers the requests below `base`; all others go on to `next`. */
+export interface Passkeys extends Calls<SiteContext> {
+  (context: SiteContext, next: () => Promise<unknown>): Promise<unknown>;
+}
+
+/** A middleware of Koa, `app.use(passkeys(server))`, for the acts of `garvoeng/site`. A body that was read before is that of
+ *  `context.request.rawBody` or `body`. */
+export function passkeys(server: PasskeyServer, options?: PasskeysOptions<any>): Passkeys;

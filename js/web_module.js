@@ -1,0 +1,14 @@
+// The module of a page or a worker, once it is there.
+import { Module } from "./module.js";
+
+let loaded = null;
+
+export function moduleOf() {
+  if (loaded === null) throw new Error("await load() comes first");
+  return loaded;
+}
+
+/** Takes what was compiled. */
+export function take(compiled) {
+  loaded = new Module(compiled);
+}
