@@ -1,6 +1,14 @@
-"""Moves the rows of another library into the tables of `garvoeng.sql`: python -m garvoeng.move fido2|py_webauthn DATABASE < ROWS
+"""Moves credentials into the tables of `garvoeng.sql`, and out of them:
 
-DATABASE is a SQLite file or the address of a PostgreSQL database. ROWS has a line of JSON for each row; bytes are texts of base64url.
+    python -m garvoeng.move fido2|py_webauthn DATABASE < ROWS    from the rows of another library
+    python -m garvoeng.move site FILE DATABASE                   from a site's file, which `passkey-site` keeps
+    python -m garvoeng.move to-site DATABASE FILE                back into a site's file
+
+DATABASE is a SQLite file or the address of a PostgreSQL database. FILE is one that no process has, or a backup; a sign-in counter,
+retirement, times and transports go along, and open sessions do not. Back, it is a file that `passkey-site --no-sums`
+has made for the same rp id.
+
+ROWS has a line of JSON for each row; bytes are texts of base64url.
 Of python-fido2: `user`, the user handle, `credential_data`, the bytes of `AttestedCredentialData`, and `counter`. Of py_webauthn:
 `user`, and the members of `VerifiedRegistration`: `credential_id`, `credential_public_key`, `sign_count`, `credential_device_type`,
 `credential_backed_up`. Both may have `transports`. Each row is moved by itself, and one that is there already is left as it is: so
@@ -82,12 +90,8 @@ def moved(reader: Callable[[Mapping[str, Any]], Moved], server: SqlServer, lines
     return counts["not moved"] == 0
 
 
-def main() -> None:
-    """The command."""
-    if len(sys.argv) != 3 or sys.argv[1] not in READERS:
-        sys.exit(__doc__)
-    address = sys.argv[2]
-
+def _database(address: str) -> SqlServer:
+    """The tables of a database, which are made where there are none."""
     def connect() -> Any:
         if not address.startswith(("postgres:", "postgresql:")):
             return sqlite3.connect(address, timeout=30)
@@ -96,7 +100,28 @@ def main() -> None:
 
     server = SqlServer(Server("localhost", ["http://localhost"], verify=lambda *_: False), connect)
     server.prepare()
-    sys.exit(not moved(READERS[sys.argv[1]], server, sys.stdin, print))
+    return server
+
+
+def _site(direction: str, source: str, target: str) -> bool:
+    """Moves between a site's file and a database. Its module wants a system with locks as POSIX has them."""
+    from . import move_site
+    if direction == "site":
+        return move_site.to_database(source, _database(target), print)
+    return move_site.to_file(_database(source), target, print)
+
+
+def main() -> None:
+    """The command."""
+    words = sys.argv[1:]
+    if len(words) == 2 and words[0] in READERS:
+        sys.exit(not moved(READERS[words[0]], _database(words[1]), sys.stdin, print))
+    if len(words) == 3 and words[0] in ("site", "to-site"):
+        try:
+            sys.exit(not _site(*words))
+        except BadInput as error:
+            sys.exit(str(error))
+    sys.exit(__doc__)
 
 
 if __name__ == "__main__":

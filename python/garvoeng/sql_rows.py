@@ -314,12 +314,15 @@ class Rows:
         self.run("delete from garvoeng_session where id = ?", _names_of(user))
         return int(self.run("delete from garvoeng_credential where user_handle = ?", user).rowcount)
 
-    def add(self, credential: Credential, backed_up: Optional[bool], aaguid: Optional[bytes]) -> None:
-        """Stores a credential. Raises `Refused`, G15, where its id is registered, to anyone, retired or not."""
+    def add(self, credential: Credential, backed_up: Optional[bool], aaguid: Optional[bytes], created_at: Optional[int] = None,
+            used_at: Optional[int] = None) -> None:
+        """Stores a credential, which was made now unless it is said when. Raises `Refused`, G15, where its id is registered, to anyone,
+        retired or not."""
         added = self.run(
-            "insert into garvoeng_credential values (?, ?, ?, ?, ?, ?, ?, ?, ?, ?, null) on conflict (id) do nothing",
+            "insert into garvoeng_credential values (?, ?, ?, ?, ?, ?, ?, ?, ?, ?, ?) on conflict (id) do nothing",
             credential.id, credential.user, credential.cose_key, credential.sign_count, _number(credential.eligible),
-            int(credential.retired), _number(backed_up), ",".join(credential.transports), aaguid, int(time.time()))
+            int(credential.retired), _number(backed_up), ",".join(credential.transports), aaguid,
+            int(time.time()) if created_at is None else created_at, used_at)
         if added.rowcount != 1:
             raise Refused(True, 15, "the credential was registered meanwhile")
 

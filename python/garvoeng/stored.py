@@ -18,6 +18,7 @@ from .answers import Verify, in_thread
 from .broker import MAX_LINE, Connection
 from .errors import BadInput, Refused
 from .library import EDDSA, ES256, RS256
+from .metrics import prometheus
 from .options import Ids, Requirement
 from .records import Credential, KeptCredential, Registered, SignedIn
 from .server import verify_of
@@ -472,6 +473,11 @@ class StoredServer:
         `registrations_refused`, and the `lost_log_lines` that could not be written. `known` is as of `StoredServer.known`."""
         answer = self._ask("status")
         return {**answer["status"], "known": answer["known"]}
+
+    def metrics(self) -> str:
+        """`status` in the text format of Prometheus, version 0.0.4, for the answer to its request: content type
+        `text/plain; version=0.0.4`. Names begin with `garvoeng_`, counters end in `_total`, and refusals have the label `step`."""
+        return prometheus(self.status())
 
     def backup(self, path: str) -> None:
         """Copies the file to a path of the program's machine at which nothing stands: the copy is a whole file of one moment, on

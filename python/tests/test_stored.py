@@ -1,6 +1,7 @@
 """`StoredServer` over the program of PROGRAM: what its options ask, and the forms that are awaited, of `SqlServer` too."""
 import asyncio
 import os
+import re
 import sqlite3
 import sys
 import threading
@@ -9,7 +10,7 @@ from contextlib import suppress
 from pathlib import Path
 
 import pytest
-from device import AT, BE, BS, ED, UP, UV, Device, changed
+from device import AT, BE, BS, ED, ES256, UP, UV, Device, changed
 from test_options import REQUIREMENTS, VALUES_OF_OPTIONS, slips
 
 from garvoeng import BadInput, Credential, Refused, Server, StoredServer, StoreFailed
@@ -54,6 +55,22 @@ def refusal(call, *words, **how):
     with pytest.raises(Refused) as refused:
         call(*words, **how)
     return refused.value.name
+
+
+def test_metrics(site):
+    """Each line is one that Prometheus reads, and says what `status` says."""
+    registers(site, Device(ES256))
+    options, session = site.register_begin(USER, "name")
+    assert refusal(site.register_complete, session, Device(ES256).register(options)) == "G15"
+    status, lines = site.status(), site.metrics().splitlines()
+    assert site.metrics().endswith("\n")
+    samples = dict(line.rsplit(" ", 1) for line in lines if not line.startswith("# TYPE "))
+    assert all(re.fullmatch(r'garvoeng_[a-z_]+(\{[a-z]+="[0-9A-Za-z.+-]+"\})?', name) for name in samples)
+    named = {name.split("{")[0] for name in samples} | {"garvoeng_sign_ins_refused_total"}
+    assert {line.split()[2] for line in lines if line.startswith("# TYPE ")} == named
+    assert samples['garvoeng_registrations_refused_total{step="G15"}'] == "1" and samples["garvoeng_registrations_total"] == "1"
+    assert samples[f'garvoeng_info{{version="{status["version"]}"}}'] == "1" and samples["garvoeng_credentials"] == "1"
+    assert float(samples["garvoeng_last_commit_seconds"]) == status["last_commit_microseconds"] / 1_000_000
 
 
 def test_creation_options_are_those_of_server(site):
