@@ -3,7 +3,7 @@
  *
  *   gcc -std=c11 example.c libpasskey.a -lcrypto -o example && ./example
  *
- * with passkey.h and libpasskey.a in the same folder. docs/HOSTS.md says how to get the library, with the Rattle kit or
+ * with passkey.h and libpasskey.a in the same folder. docs/EMBED.md says how to get the library, with the Rattle kit or
  * without it. */
 #include "passkey.h"
 

@@ -95,6 +95,9 @@ notices_into() {
     for name in NOTICE garvoeng.cdx.json; do echo "$name sha256 $(digest "$1/$name")"; done
 }
 
+# What the package for JavaScript is packed from, beside files of dist/.
+js_sources=(js LICENSE python/garvoeng/{passkeys.html,passkeys.js,page.js,web/models.json})
+
 # Packs the package for JavaScript into a folder, with these files as its passkey.wasm and NOTICE, and prints its lines of
 # dist/MANIFEST: packed_into FOLDER MODULE NOTICE. Other versions of npm and Node may compress the same files to other bytes.
 packed_into() {
@@ -102,7 +105,7 @@ packed_into() {
     copy=$(mktemp -d) || return
     name=garvoeng-$(cat "$top/VERSION").tgz
     if mkdir -p "$copy/dist/portable" && cp "$2" "$copy/dist/portable/passkey.wasm" && cp "$3" "$copy/dist/NOTICE" &&
-        tar -C "$top" --exclude=node_modules --exclude=js/cjs --exclude=js/LICENSE --exclude=js/NOTICE --exclude=js/passkey.wasm -cf - js LICENSE | tar -C "$copy" -xf - &&
+        tar -C "$top" --exclude=node_modules --exclude=js/cjs --exclude=js/LICENSE --exclude=js/NOTICE --exclude=js/passkey.wasm --exclude=js/site_files.js --exclude=js/wasm_text.js -cf - "${js_sources[@]}" | tar -C "$copy" -xf - &&
         (cd "$copy/js" && umask 022 && HOME=$copy npm_config_cache=$copy/cache npm pack --offline --silent --pack-destination "$1" > /dev/null) && [ -f "$1/$name" ]; then
         file_lines "$name" "$1/$name"
         echo "$name tools npm $(npm --version), Node $(node --version)"

@@ -25,9 +25,10 @@ def micro(value):
 
 
 def taken(part):
-    """When a part was measured, and beside what."""
+    """When a part was measured, and beside what: one part after another keeps one or two cores at work by itself."""
     day, load = datetime.date.fromisoformat(part["taken"]["day"]), part["taken"]["load"]
-    beside = f"others at work on the machine (load {load})" if load >= 0.5 else "nothing else running"
+    own = f"load {load}, the measures' own counted in"
+    beside = "nothing else running" if load < 0.5 else own if load < 2 else f"others at work on the machine (load {load})"
     return f"{day.day} {day:%B %Y}, {beside}"
 
 

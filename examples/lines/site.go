@@ -20,10 +20,13 @@ import (
 	"fmt"
 	"io"
 	"log"
+	"math"
 	"math/big"
+	"net"
 	"net/http"
 	"os"
 	"os/exec"
+	"strconv"
 	"strings"
 	"sync"
 	"time"
@@ -82,6 +85,7 @@ type site struct {
 	state   sync.Mutex
 	running *run
 	number  int
+	limit   limit
 }
 
 // Starts the program where none runs. What was asked of one that ends fails: it is done or is not.
@@ -244,6 +248,41 @@ for (const act of ["registration", "sign_in"]) {
 }
 </script>`
 
+// How often an address may post: 50 times at once, and 5 times a second from then on. At most 10,000 addresses are kept.
+type limit struct {
+	lock   sync.Mutex
+	posted map[string]bucket
+}
+
+type bucket struct {
+	left float64
+	at   time.Time
+}
+
+// wait counts a request: the seconds until the address may post again. This machine's own addresses are not limited.
+func (l *limit) wait(address string, now time.Time) int {
+	host, _, err := net.SplitHostPort(address)
+	if ip := net.ParseIP(host); err != nil || ip == nil || ip.IsLoopback() {
+		return 0
+	}
+	l.lock.Lock()
+	defer l.lock.Unlock()
+	had, is := l.posted[host]
+	if !is {
+		had = bucket{50, now}
+		if l.posted == nil || len(l.posted) >= 10_000 {
+			l.posted = map[string]bucket{}
+		}
+	}
+	tokens := math.Min(50, had.left+math.Max(0, now.Sub(had.at).Seconds())*5)
+	if tokens < 1 {
+		l.posted[host] = bucket{tokens, now}
+		return int(math.Ceil((1 - tokens) / 5))
+	}
+	l.posted[host] = bucket{tokens - 1, now}
+	return 0
+}
+
 func (s *site) begin(asked object) (string, object, error) {
 	if asked["act"] != "registration" {
 		answer, err := s.ask("begin_sign_in", nil)
@@ -290,6 +329,11 @@ func (s *site) ServeHTTP(out http.ResponseWriter, request *http.Request) {
 	if request.Method == http.MethodGet && request.URL.Path == "/" {
 		out.Header().Set("Content-Type", "text/html")
 		io.WriteString(out, page)
+		return
+	}
+	if seconds := s.limit.wait(request.RemoteAddr, time.Now()); seconds > 0 {
+		out.Header().Set("Retry-After", strconv.Itoa(seconds))
+		http.Error(out, "too many requests", http.StatusTooManyRequests)
 		return
 	}
 	text, err := io.ReadAll(http.MaxBytesReader(out, request.Body, 60_000))

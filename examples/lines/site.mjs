@@ -79,6 +79,19 @@ function found(request, name) {
   return (cookie ?? "").slice(name.length + 1);
 }
 
+// An address posts 50 times at once, and 5 times a second from then on. How long it has to wait, in seconds; this machine's own is not limited.
+const posted = new Map();
+
+export function wait(address = "", now = Date.now() / 1000) {
+  if (/^(::1|(::ffff:)?127\..*|)$/.test(address)) return 0;
+  const { left, at } = posted.get(address) ?? { left: 50, at: now };
+  const tokens = Math.min(50, left + Math.max(0, now - at) * 5);
+  posted.delete(address);
+  posted.set(address, { left: tokens < 1 ? tokens : tokens - 1, at: now });
+  if (posted.size > 10_000) posted.delete(posted.keys().next().value);
+  return tokens < 1 ? Math.ceil((1 - tokens) / 5) : 0;
+}
+
 const PAGE = `<!doctype html><meta charset="utf-8"><title>A site</title>
 <p><input id="name" value="ada"> <button id="registration">Register</button> <button id="sign_in">Sign in</button> <p id="said">
 <script type="module">
@@ -133,6 +146,8 @@ async function answered(site, request) {
 
 export function serve(site, port) {
   return createServer(async (request, response) => {
+    const seconds = request.method === "POST" ? wait(request.socket.remoteAddress) : 0;
+    if (seconds > 0) return response.writeHead(429, { "Retry-After": seconds }).end();
     const [status, text, cookies = []] = await answered(site, request).catch(error =>
       error instanceof SyntaxError ? [400, error.message] : [503, `${error.message}; ask again`]);
     response.writeHead(status, { "Content-Type": text === PAGE ? "text/html" : "application/json", "Set-Cookie": cookies });

@@ -2,9 +2,9 @@
 const express = require("express");
 const { toText } = require("garvoeng");
 const { passkeys } = require("garvoeng/http");
-const { port, secret, server } = require("./party.cjs");
+const { port, server } = require("./party.cjs");
 
-const app = express(), site = passkeys(server, { secret });
+const app = express(), site = passkeys(server);
 
 app.use(site);
 app.get("/", (_, response) => response.sendFile(`${__dirname}/page.html`));

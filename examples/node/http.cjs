@@ -3,9 +3,9 @@ const { readFileSync } = require("node:fs");
 const { createServer } = require("node:http");
 const { toText } = require("garvoeng");
 const { passkeys } = require("garvoeng/http");
-const { port, secret, server } = require("./party.cjs");
+const { port, server } = require("./party.cjs");
 
-const page = readFileSync(`${__dirname}/page.html`), site = passkeys(server, { secret });
+const page = readFileSync(`${__dirname}/page.html`), site = passkeys(server);
 
 createServer((request, response) => {
   const send = (status, type, body) => response.writeHead(status, { "Content-Type": type }).end(body);

@@ -1,5 +1,4 @@
 // The relying party of both sites: over the PostgreSQL that DATABASE_URL names, or else over the proved program, which keeps FILE.
-const { randomBytes } = require("node:crypto");
 const { Server, StoredServer } = require("garvoeng");
 const { SqlServer } = require("garvoeng/sql");
 
@@ -7,8 +6,6 @@ const { DATABASE_URL, PORT = "8080", ORIGIN = `http://localhost:${PORT}`, PROGRA
 const party = [new URL(ORIGIN).hostname, [ORIGIN]];
 
 exports.port = Number(PORT);
-// It signs the cookies. All processes of a site have the same; a new one signs everybody out.
-exports.secret = process.env.SECRET ??= randomBytes(32).toString("hex");
 exports.server = DATABASE_URL === undefined
   ? new StoredServer(PROGRAM, FILE, ...party, { log: true })
   : new SqlServer(new Server(...party), new (require("pg").Pool)({ connectionString: DATABASE_URL }));

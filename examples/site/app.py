@@ -11,6 +11,7 @@ from acts import acts_at
 from flask import Flask, Response, jsonify, redirect, request, send_file, session as cookie
 from garvoeng import BadInput, Refused, StoreFailed
 from garvoeng.forms import from_text, to_text
+from garvoeng.rate_limit import RateLimit
 from werkzeug.wrappers import Response as AnyResponse
 
 HERE = os.path.dirname(os.path.abspath(__file__))
@@ -47,6 +48,18 @@ def site(address: str, origin: str, secret: bytes) -> Flask:
     app.config.update(SESSION_COOKIE_HTTPONLY=True, SESSION_COOKIE_SAMESITE="Strict", MAX_CONTENT_LENGTH=MAX_BODY,
                       SESSION_COOKIE_SECURE=origin.startswith("https:"))
     acts = acts_at(address, origin.split("//")[1].split(":")[0], origin, "A small site")
+
+    limit = RateLimit()
+
+    @app.before_request
+    def limited() -> Optional[AnyResponse]:
+        """Answers a visitor who posts too often, before anything is done."""
+        wait = limit(request.remote_addr) if request.method == "POST" else 0
+        if not wait:
+            return None
+        answer = jsonify(error="too many requests")
+        answer.status_code, answer.headers["Retry-After"] = 429, str(wait)
+        return answer
 
     def signed_in_user(fresh: Optional[int] = None) -> Optional[bytes]:
         return acts.signed_in(cookie.get("signed-in"), fresh)

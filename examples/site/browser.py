@@ -18,14 +18,14 @@ SCRIPT = ("const [values, done] = arguments;"
 
 
 class Chromium:
-    def __init__(self, port: int) -> None:
+    def __init__(self, port: int, headless: bool = True) -> None:
         self.port = port
         self.driver = subprocess.Popen(["chromedriver", f"--port={port}"], stdout=subprocess.PIPE, text=True)
         for line in self.driver.stdout:
             if "started successfully" in line:
                 break
         begun = self._ask("/session", {"capabilities": {"alwaysMatch": {"browserName": "chrome", "goog:chromeOptions": {
-            "args": ["--headless=new", "--no-sandbox", "--window-size=800,500"]}}}})
+            "args": [*(["--headless=new"] if headless else ["--no-first-run", "--window-position=0,0"]), "--no-sandbox", "--window-size=800,500"]}}}})
         self.path = "/session/" + begun["sessionId"]
         self.version = "Chromium " + begun["capabilities"]["browserVersion"]
 
