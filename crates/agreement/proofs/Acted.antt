@@ -1,5 +1,5 @@
 -- By what the contracts of a site's and an authenticator's calls say, each is an event.
-use Rattle.std.proofs.Common.{◌≡◌, ◌<◌, ◌-◌, ◌^◌, ℕ, Bool, true, List, refl, sym, ap, ◌∙◌, subst}
+use Rattle.std.proofs.Common.{◌≡◌, ℕ, List, refl, sym, ap, ◌∙◌, subst}
 use Rattle.std.specs.Prelude.{Err, IfOk, Ok, OnOk, Result}
 use Rattle.base64.specs.GeneralPurpose.{IsBytes}
 use Rattle.hidframe.specs.declared.Packet.{Packet}
@@ -9,12 +9,11 @@ use Rattle.verification.specs.Records.{Credential, RelyingParty}
 use Rattle.verification.specs.Registration.{PassesRegistration}
 use Rattle.verification.specs.SignIn.{PassesSignIn}
 use Rattle.verification.specs.declared.party.Policy.{Policy}
-use Rattle.authdata.specs.declared.profile.Profile.{Profile}
 use Rattle.site_state.specs.Sessions.{OpenSessions, Opening, PassesOpening}
 use Rattle.site.specs.Laws.{after_begin}
 use Rattle.site.specs.State.{IsAfterRegistration, IsAfterSignIn, IsLoaded, SiteState, judged_registration, judged_sign_in}
 use Rattle.authenticator.specs.Saved.{SavedOf}
-use Rattle.authenticator.specs.State.{AuthenticatorState, forgotten}
+use Rattle.authenticator.specs.State.{AuthenticatorState}
 use Rattle.authenticator.specs.Steps.{Keys, Outcome, Step, Steps}
 use Rattle.authenticator.specs.declared.consent.Consent.{Consent}
 use Rattle.authenticator.specs.declared.consent.Words.{Words}
@@ -24,7 +23,7 @@ use Rattle.ceremony.specs.declared.registration.Enrolled.{Enrolled}
 use Rattle.ceremony.specs.declared.signing_in.Accepted.{Accepted}
 use Rattle.agreement.specs.Acting.{Acts, Answers, Loads, Reloads, Restores}
 use Rattle.agreement.specs.Lived.{with_holder}
-use Rattle.agreement.specs.World.{Begins, Holder, Registers, RegistersBy, SignsIn, SignsInBy, SiteActs, World, after_call, after_restart, words_of}
+use Rattle.agreement.specs.World.{Begins, Holder, Registers, RegistersBy, SignsIn, SignsInBy, SiteActs, after_call, after_restart, words_of}
 use Rattle.agreement.proofs.CallsActed.{loaded_as}
 use Rattle.agreement.proofs.Lived.{changes_holder, holder_there}
 use Rattle.agreement.proofs.Sites.{passes_with_room, succeeds_with_room}

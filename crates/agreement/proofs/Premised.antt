@@ -1,5 +1,5 @@
 -- What meets the premises of the laws.
-use Rattle.std.proofs.Common.{◌≡◌, ◌≢◌, ◌∙◌, ℕ, List, [], ◌∷◌, ◌++◌, Bool, true, false, Some, refl, ap, subst, sym, inl, inr, arith}
+use Rattle.std.proofs.Common.{◌≡◌, ◌≢◌, ◌∙◌, ℕ, List, [], ◌∷◌, Bool, true, false, Some, refl, ap, subst, sym, inl, inr, arith}
 use Rattle.std.specs.Prelude.{Contains}
 use Rattle.std.specs.FinMap as finite
 use Rattle.std.specs.List.{All}
@@ -18,7 +18,7 @@ use Rattle.authenticator.specs.Steps.{Entry, Keys}
 use Rattle.client.specs.Responses.{response_of}
 use Rattle.ceremony.specs.Registration as registering
 use Rattle.ceremony.specs.Verdict.{Delivers}
-use Rattle.agreement.specs.Agreement.{Brings, IsAccepted, IsAcceptedRegistration, IsDeleted, IsIdeal, NoneDeleted, Tries, message_of}
+use Rattle.agreement.specs.Agreement.{Brings, IsAcceptedRegistration, IsDeleted, IsIdeal, NoneDeleted, Tries, message_of}
 use Rattle.agreement.specs.Premises.{HonestPremises, PagePremises, Premises, RunPremises, SessionPremises}
 use Rattle.agreement.specs.Stays.{IsEnd}
 use Rattle.agreement.specs.World as world
@@ -192,8 +192,8 @@ session_premises = record {
 page_premises : PagePremises
 page_premises = record {
   from_page = λ page t seen reads is.
-      record { client_data = t; hashed = refl; seen = seen; reads = reads; page = subst (λ (p : List ℕ). Contains (p ∷ []) seen.origin) is (0, omega arith, refl) };
-  asked = λ pages k moments each before m later here channel consent words q asked.
+      record { seen = seen; reads = reads; page = subst (λ (p : List ℕ). Contains (p ∷ []) seen.origin) is (0, omega arith, refl) };
+  asked = λ texts k moments each before m later here channel consent words q asked.
       each m channel asked.bytes consent words q (subst (λ (ms : List Moment). Contains ms m) (sym here) (Contains-append_right before (m ∷ later) m (0, omega arith, refl))) asked.event asked.done asked.request;
 }
 

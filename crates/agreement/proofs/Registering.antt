@@ -66,7 +66,7 @@ creation_bits false = record { present = refl; verified = λ e. absurd cc; eligi
 not_packed : (fmt : List ℕ) → fmt ≡ codes "none" → fmt ≡ codes "packed" → ⊥
 not_packed fmt a b = let bad : codes "none" ≡ codes "packed" = sym a ∙ b in absurd cc
 
-record Stated (valid : Validity) (policy : Policy) (o : Attestation) (key : CoseKey) (hash : List ℕ) : Type 0 where
+pub record Stated (valid : Validity) (policy : Policy) (o : Attestation) (key : CoseKey) (hash : List ℕ) : Type 0 where
   pub known : IsKnownFormat o.fmt
   pub statement : IsNone o ⊎ IsSelfSigned valid o key hash
   pub accepted : (IsNone o → policy.accept_none ≡ true) × (IsSelfSigned valid o key hash → policy.accept_self ≡ true)
@@ -84,7 +84,7 @@ stated valid policy types.SelfSigned key hash consent r signed accepts x =
     record { known = inr x.0; statement = inr self; accepted = (λ n. absurd (not_packed r.fmt n.0 x.0), λ s. accepts) }
 
 -- and as it counts for the session
-stated_as : (valid : Validity) (policy : Policy) (p : Profile) (asked : Bool) (attest : AttestationType) (key : CoseKey) (hash : List ℕ) (consent : Consent)
+pub stated_as : (valid : Validity) (policy : Policy) (p : Profile) (asked : Bool) (attest : AttestationType) (key : CoseKey) (hash : List ℕ) (consent : Consent)
     (r : Creation) (signed : List Entry) → AcceptsAttestation policy (counts_as p asked attest) → MakesStatement valid key hash consent attest r signed
     → Stated valid policy (counted p asked (object_of r)) key hash
 stated_as valid policy Strict asked attest key hash consent r signed accepts x = stated valid policy attest key hash consent r signed accepts x

@@ -64,7 +64,7 @@ module _ (readings : Readings) (valid : Validity) (x : JudgedSignIn) (e : expect
       → AuthOf x.rp.profile b x.response.auth_data → P b
   all P is h b other = subst P (readings.one_value x.rp.profile x.rp.profile a b x.response.auth_data is other) h
 
-  record Signs : Type 0 where
+  pub record Signs : Type 0 where
     pub is_open : x.session ≡ Some e
     pub registered : x.credential ≡ Some c
     pub allowed : (e.allow ≡ []) ⊎ Contains e.allow x.response.credential
@@ -101,7 +101,7 @@ module _ (readings : Readings) (valid : Validity) (x : JudgedSignIn) (e : expect
   passed h step.CounterNotGreater = of_some _ x.credential c h.registered (all _ h.spelled h.counted)
   passed h step.EligibilityChanged = of_some _ x.credential c h.registered (λ known is. all _ h.spelled (h.eligible known is))
 
-  signs : Signs → PassesSignIn valid x
+  pub signs : Signs → PassesSignIn valid x
   signs h = recursion_from_All (PassesSignInStep valid x) steps (λ k w lt. passed h (get_or steps k w))
 
 -- ---- who is asked for

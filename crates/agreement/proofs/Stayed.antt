@@ -1,9 +1,8 @@
 -- An open session stays, and a reset leaves no credential.
-use Rattle.std.proofs.Common.{◌≡◌, ◌≢◌, ◌⊎◌, inl, inr, ℕ, List, [], ◌∷◌, ◌++◌, Bool, true, Option, Some, None, refl, sym, ◌∙◌, ap, subst, arith}
+use Rattle.std.proofs.Common.{◌≡◌, ◌≢◌, inl, inr, ℕ, List, [], ◌∷◌, ◌++◌, Bool, true, Option, Some, None, refl, sym, ◌∙◌, ap, subst, arith}
 use Rattle.std.specs.FinMap.{gets}
 use Rattle.std.specs.FinMap as finite
 use Rattle.std.specs.Prelude.{not}
-use Rattle.std.specs.List.{All}
 use Rattle.std.specs.List.{AllByRecursion as Each}
 use Rattle.std.proofs.lemmas.Bool.Decides.{eqb_tells}
 use Rattle.std.proofs.lemmas.Grind.{common_steps}
@@ -16,16 +15,15 @@ use Rattle.verification.specs.SignIn.{PassesSignIn}
 use Rattle.ctap_requests.specs.Requests.{RequestMessage, reset}
 use Rattle.ctap_requests.specs.Status.{Applies, IsRequest, Rank, ranks}
 use Rattle.site_state.specs.Sessions.{Expected, OpenSessions, closed, for_sign_in}
-use Rattle.site_state.specs.Table.{row_of}
 use Rattle.site.specs.Laws.{IsFresh}
-use Rattle.site.specs.State.{SiteState, judged_sign_in}
+use Rattle.site.specs.State.{SiteState}
 use Rattle.authenticator.specs.Orders.{reset_order}
 use Rattle.authenticator.specs.State.{AuthenticatorState}
 use Rattle.authenticator.specs.Steps.{CarriesOut, Keys, Outcome, Resets as IsReset, Step, Unless}
 use Rattle.authenticator.specs.declared.consent.Consent.{Consent}
 use Rattle.authenticator.specs.declared.consent.Words.{Words}
 use Rattle.agreement.specs.Below.{Below}
-use Rattle.agreement.specs.Ledger.{IsAsked, world_after}
+use Rattle.agreement.specs.Ledger.{world_after}
 use Rattle.agreement.specs.Stays.{IsEnd, IsOpen, MayEnd, Resets, Stays, StaysOfAllRuns}
 use Rattle.agreement.specs.World.{Abandons, Asks, AtSite, Begins, Bounds, Deletes, Done, Event, EventEffect, EventEnd, Expires, Happens, Holder, IsRun, Moment, Nothing}
 use Rattle.agreement.specs.World.{Registers, RegistersBy, Reloads, Reopens, Restarts, Retires, SignsIn, SignsInBy, SiteActs, SiteEvent, World}

@@ -40,7 +40,7 @@ use Rattle.agreement.specs.Agreement.{AnswersSession, IsAccepted, IsAcceptedRegi
 use Rattle.agreement.specs.Ends.{AuthenticatorEnd, Exchange, IsIdleOn}
 use Rattle.agreement.specs.Honest as honest
 use Rattle.agreement.specs.Honest.{AsksForNew, Decided, IsAskedFor, IsHonestRegistration, IsHonestRun, IsHonestSignIn, IsShared, Registering, SigningIn, counts_as}
-use Rattle.agreement.specs.Pages.{AskedFrom, IsFromPage}
+use Rattle.agreement.specs.Pages.{AskedOver, IsFromPage}
 use Rattle.agreement.specs.Stays.{IsEnd, MayEnd}
 use Rattle.agreement.specs.World as world
 use Rattle.agreement.specs.World.{Abandons, AtSite, Begins, Bounds, Deletes, Done, Event, Happens, IsRun, IsStart, Moment, Nothing, Registers, RegistersBy, Reloads, Reopens}
@@ -120,13 +120,14 @@ pub record SessionPremises : Type 0 where
   pub reloads : (i n k : ℕ) (m : Moment) → m.event ≡ Reloads k → IsEnd i n m → ⊥
 
 pub record PagePremises : Type 0 where
-  -- the hash of client data that name a page is one from this page
-  pub from_page : (page t : List ℕ) (seen : Seen) → seen_of t ≡ Some seen → seen.origin ≡ page → IsFromPage (page ∷ []) (sha256 t)
-  -- and so an authenticator was asked from pages alone, where the hash of each getAssertion to it that was carried out is from one of them
-  pub asked : (pages : List (List ℕ)) (k : ℕ) (moments : List Moment)
+  -- client data that name a page are from this page
+  pub from_page : (page t : List ℕ) (seen : Seen) → seen_of t ≡ Some seen → seen.origin ≡ page → IsFromPage (page ∷ []) t
+  -- and an authenticator was asked over client data, where the hash of each getAssertion to it that was carried out is that of one of them
+  pub asked : (texts : List (List ℕ)) (k : ℕ) (moments : List Moment)
       → ((m : Moment) (channel : ℕ) (bs : List ℕ) (consent : Consent) (words : Words) (q : AssertionRequest) → Contains moments m
-      → m.event ≡ world.Asks k channel bs consent words → m.end ≡ Done → IsRequest (get_assertion q) bs → IsFromPage pages q.client_data_hash)
-      → AskedFrom pages k moments
+      → m.event ≡ world.Asks k channel bs consent words → m.end ≡ Done → IsRequest (get_assertion q) bs
+      → (t : List ℕ) × Contains texts t × (q.client_data_hash ≡ sha256 t))
+      → AskedOver texts k moments
 
 -- ---- of an honest run
 

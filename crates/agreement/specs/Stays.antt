@@ -1,13 +1,13 @@
 -- What stays: an open session, until its own end (WebAuthn Level 2, sections 7.1 and 7.2); and what goes: each credential, by a reset
 -- (CTAP 2.1, section 6.6).
-use Rattle.std.specs.Prelude.{◌≡◌, ◌⊎◌, ℕ, List, [], ◌++◌, true, Some}
+use Rattle.std.specs.Prelude.{◌≡◌, ℕ, List, [], ◌++◌, true, Some}
 use Rattle.std.specs.List.{All}
 use Rattle.std.specs.FinMap as finite
 use Rattle.cose.specs.Schemes.{Validity}
 use Rattle.authdata.specs.Responses.{AuthenticatorAssertionResponse}
 use Rattle.verification.specs.SignIn.{PassesSignIn}
 use Rattle.ctap_requests.specs.Requests.{reset}
-use Rattle.site_state.specs.Sessions.{Expected, ForSignIn}
+use Rattle.site_state.specs.Sessions.{Expected}
 use Rattle.site_state.specs.Table.{row_of}
 use Rattle.site.specs.State.{judged_sign_in}
 use Rattle.authenticator.specs.Steps.{Keys}
