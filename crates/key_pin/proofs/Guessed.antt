@@ -7,7 +7,8 @@ use Rattle.key_pin.specs.declared.words.PinWords.{PinWords}
 use Rattle.key_pin.specs.Brought.{ComesOf, IsTried}
 use Rattle.key_pin.specs.Grants.{granted, after_grant}
 use Rattle.key_pin.specs.Host.{Ending, asks, refused}
-use Rattle.key_pin.specs.Laws.{Call, handle, begin, leave, verify, spend, end_token, give_up, power_up, reset, next, nexts, Sound, BringsRightPin, IsNoReset, IsNoRestart, is_mismatch, wrong, guesses, NoneGivesBack, NoneClears, open_try}
+use Rattle.key_pin.specs.Calls.{Call, handle, begin, leave, verify, spend, end_token, give_up, power_up, reset, next, nexts}
+use Rattle.key_pin.specs.Laws.{Sound, BringsRightPin, IsNoReset, IsNoRestart, is_mismatch, wrong, guesses, NoneGivesBack, NoneClears, open_try}
 use Rattle.key_pin.specs.Outcomes.{Outcome, retries_told, key_told, pin_set, pin_refused, token_told, mismatch, after, one_more}
 use Rattle.key_pin.specs.Query.{Query}
 use Rattle.key_pin.specs.Saved.{FitsPin}

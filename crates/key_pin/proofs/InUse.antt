@@ -5,7 +5,8 @@ use Rattle.pin_protocols.specs.Asks.{Asked}
 use Rattle.key_pin.specs.declared.words.PinWords.{PinWords}
 use Rattle.key_pin.specs.Grants.{granted, after_grant, bound}
 use Rattle.key_pin.specs.Host.{Ending, asks, refused}
-use Rattle.key_pin.specs.Laws.{Call, handle, begin, leave, verify, spend, end_token, give_up, power_up, reset, next, nexts, IsOf, IsHanded, IsAmong}
+use Rattle.key_pin.specs.Calls.{Call, handle, begin, leave, verify, spend, end_token, give_up, power_up, reset, next, nexts}
+use Rattle.key_pin.specs.Laws.{IsOf, IsHanded, IsAmong}
 use Rattle.key_pin.specs.Outcomes.{Outcome, retries_told, key_told, pin_set, pin_refused, token_told, mismatch, after}
 use Rattle.key_pin.specs.Query.{Query}
 use Rattle.key_pin.specs.State.{PinState, PinToken, counted, with_pair, pair_of, without_permissions}
@@ -40,7 +41,7 @@ counted_token s = elim s.counted as (λ b. (cond b s (record s { retries = s.ret
 way_of : (es : List (Asked × List ℕ)) (words : PinWords) (q : Query) (s : PinState) → Way es words q (with_pair words s) (verdict es words q s)
 way_of es words q s = judged_way es words (pair_of words s) q (with_pair words s)
 
-state_token : (es : List (Asked × List ℕ)) (words : PinWords) (q : Query) (s : PinState) → (verdict es words q s).state.token ≡ s.token
+pub state_token : (es : List (Asked × List ℕ)) (words : PinWords) (q : Query) (s : PinState) → (verdict es words q s).state.token ≡ s.token
 state_token es words q s = elim (way_of es words q s) [
   | inl u ↦ ap (λ (st : PinState). st.token) u.state
   | inr c ↦ ap (λ (st : PinState). st.token) c.state ∙ counted_token (with_pair words s)

@@ -1,25 +1,25 @@
 -- The laws.
 use Rattle.std.proofs.Common.{◌+◌, ◌-◌, length, ◌≡◌, ◌≢◌, ◌<◌, ◌≤◌, ◌⊎◌, ℕ, List, [], ◌∷◌, Bool, true, false, cond, eqb, leb, Some, None, Result, Ok, Err, refl, sym, ap, subst, ◌∙◌, inl, inr, arith}
-use Rattle.std.specs.Prelude.{Option, bit_and, not, option_map, ◌↔◌}
+use Rattle.std.specs.Prelude.{Option, option_map, ◌↔◌}
 use Rattle.std.specs.List.{AllByRecursion}
-use Rattle.std.proofs.lemmas.Bool.{eqb-false, eqb-true, le-leb, leb-true}
-use Rattle.std.proofs.lemmas.Slice.Eq.{bytes_eq-Decides}
+use Rattle.std.proofs.lemmas.Bool.{le-leb, leb-true}
 use Rattle.pin_key_messages.specs.Replying.{PinReplyBytes}
 use Rattle.pin_protocols.specs.declared.protocol.Protocol.{Protocol}
 use Rattle.pin_protocols.specs.Asks.{Asked, answer_of}
-use Rattle.pin_protocols.specs.Protocols.{Authenticates, number}
 use Rattle.key_pin.specs.declared.words.PinWords.{PinWords}
-use Rattle.key_pin.specs.Grants.{Claim, bound, granted, after_grant, is_for, permits, token_of}
-use Rattle.key_pin.specs.Host.{Ending, asks, refused, verified}
-use Rattle.key_pin.specs.Laws.{Call, handle, begin, leave, verify, spend, end_token, give_up, power_up, reset, next, nexts, Sound, IsDecryption, IsNoRestart, IsNoReset, PinLaws}
+use Rattle.key_pin.specs.Grants.{bound, granted, after_grant}
+use Rattle.key_pin.specs.Host.{Ending, asks, refused}
+use Rattle.key_pin.specs.Calls.{Call, handle, begin, leave, verify, spend, end_token, give_up, power_up, reset, next, nexts}
+use Rattle.key_pin.specs.Laws.{Sound, IsDecryption, IsNoRestart, IsNoReset, PinLaws}
 use Rattle.key_pin.specs.Outcomes.{Outcome, retries_told, key_told, pin_set, pin_refused, token_told, mismatch, after, Replies, public}
 use Rattle.key_pin.specs.Query.{Query}
 use Rattle.key_pin.specs.Saved.{FitsPin, hash_bytes, saved}
 use Rattle.key_pin.specs.State.{PinState, PinToken, counted, with_pair, pair_of, powered_up, without_permissions}
-use Rattle.key_pin.specs.Steps.{verdict, needed, known_protocol}
-use Rattle.key_pin.proofs.Binds.{bind_ok}
-use Rattle.key_pin.proofs.Brought.{both, comes, if_done, known_is, needed_is, one_number, verified_is}
+use Rattle.key_pin.specs.Steps.{verdict}
+use Rattle.key_pin.proofs.Brought.{comes}
 use Rattle.key_pin.proofs.Free.{Giving, Free}
+use Rattle.key_pin.proofs.Given.{given_in, vouched}
+use Rattle.key_pin.proofs.Granting.{granting}
 use Rattle.key_pin.proofs.Guessed.{cleared, guessed, guessed_in_a_row, one_in_a_row, restored}
 use Rattle.key_pin.proofs.Soundness.{new_sound, nexts_sound, next_sound}
 use Rattle.key_pin.proofs.InUse.{never_again}
@@ -173,51 +173,6 @@ used_up (call ∷ calls) s h e c all =
 
 -- ---- tokens
 
-not_true : (b : Bool) → not b ≡ true → b ≡ false
-not_true true e = absurd cc
-not_true false e = refl
-
-in_use : (protocol : Protocol) (o : Option PinToken) (t : PinToken) → token_of protocol o ≡ Ok t → (o ≡ Some t) × (t.protocol ≡ protocol)
-in_use protocol None t e = absurd cc
-in_use protocol (Some x) t e =
-    let k = if_done (eqb (number x.protocol) (number protocol)) (refused 0x33) (Ok x) t e in
-    let same : x ≡ t = cc in
-    (ap (λ (y : PinToken). Some y) same, ap (λ (y : PinToken). y.protocol) (sym same) ∙ one_number x.protocol protocol (eqb-true (number x.protocol) (number protocol) k.0))
-
-own_rp_id : (rp_id : List ℕ) (o : Option (List ℕ)) → is_for rp_id o ≡ true → (o ≡ None) ⊎ (o ≡ Some rp_id)
-own_rp_id rp_id None e = inl refl
-own_rp_id rp_id (Some own) e = inr (ap (λ (x : List ℕ). Some x) ((bytes_eq-Decides own rp_id).0 e))
-
--- what is granted, and by which token
-pub record Granting (es : List (Asked × List ℕ)) (c : Claim) (token : Option PinToken) : Type 0 where
-  pub by : PinToken
-  pub in_use : token ≡ Some by
-  pub protocol : c.protocol ≡ Some (number by.protocol)
-  pub authentic : Authenticates es by.protocol by.bytes c.client_data_hash c.param
-  pub permission : bit_and by.permissions c.permission ≢ 0
-  pub rp_id : (by.rp_id ≡ None) ⊎ (by.rp_id ≡ Some c.rp_id)
-
-granting : (es : List (Asked × List ℕ)) (c : Claim) (token : Option PinToken) → granted es c token ≡ Ok tt → Granting es c token
-unfolding granted
-granting es c token e =
-    let n = bind_ok (needed c.protocol) _ tt e in
-    let p = bind_ok (known_protocol n.0) _ tt n.2 in
-    let t = bind_ok (token_of p.0 token) _ tt p.2 in
-    let v = bind_ok (verified es p.0 t.0.bytes c.client_data_hash c.param) _ tt t.2 in
-    let used = in_use p.0 token t.0 t.1 in
-    let fits = if_done (permits t.0 c) (refused 0x33) (Ok tt) tt v.2 in
-    let parts = both (not (eqb (bit_and t.0.permissions c.permission) 0)) (is_for c.rp_id t.0.rp_id) fits.0 in
-    let named : c.protocol ≡ Some (number p.0) = subst (λ (m : ℕ). c.protocol ≡ Some m) (known_is n.0 p.0 p.1) (needed_is c.protocol n.0 n.1) in
-    record {
-      by = t.0;
-      in_use = used.0;
-      protocol = subst (λ (q : Protocol). c.protocol ≡ Some (number q)) (sym used.1) named;
-      authentic = subst (λ (q : Protocol). Authenticates es q t.0.bytes c.client_data_hash c.param) (sym used.1)
-          (verified_is es p.0 t.0.bytes c.client_data_hash c.param v.1);
-      permission = eqb-false _ _ (not_true _ parts.0);
-      rp_id = own_rp_id c.rp_id t.0.rp_id parts.1;
-    }
-
 bound_rp_id : (rp_id : List ℕ) (o : Option PinToken) (t : PinToken) → option_map (bound rp_id) o ≡ Some t → t.rp_id ≡ Some rp_id
 bound_rp_id rp_id None t e = absurd cc
 bound_rp_id rp_id (Some u) t e = let same : bound rp_id u ≡ t = cc in ap (λ (x : PinToken). x.rp_id) (sym same)
@@ -291,6 +246,8 @@ laws = record {
   ended = λ es words q s hash e. set_token (verdict es words q s).state hash (verdict es words q s).outcome e;
   renewed = λ es words q s token sealed e. told_token (verdict es words q s).state token sealed (verdict es words q s).outcome e;
   never_again = never_again;
+  given = given_in;
+  vouched = vouched;
   hidden_hash = λ a b p bs h. h;
   hidden_token = λ a b sealed p bs h. h;
   gone = λ s. (refl, refl, refl);

@@ -7,6 +7,8 @@ pub mod Soundness
 pub mod Brought
 pub mod Guessed
 pub mod InUse
+pub mod Granting
+pub mod Given
 pub mod Laws
 pub mod Ending
 pub mod Unpadding

@@ -7,43 +7,15 @@ use Rattle.pin_protocols.specs.Asks.{Asked, answer_of}
 use Rattle.pin_protocols.specs.Protocols.{Authenticates, number}
 use Rattle.key_pin.specs.declared.words.PinWords.{PinWords}
 use Rattle.key_pin.specs.Brought.{ComesOf, IsScoped, IsTried}
-use Rattle.key_pin.specs.Grants.{Claim, granted, after_grant}
+use Rattle.key_pin.specs.Calls.{Call, handle, leave, verify, spend, end_token, power_up, reset, next, nexts}
+use Rattle.key_pin.specs.Given.{IsGivenIn, IsVouchedFor}
+use Rattle.key_pin.specs.Grants.{Claim, granted}
 use Rattle.key_pin.specs.Host.{Ending, asks}
 use Rattle.key_pin.specs.Outcomes.{Outcome, retries_told, pin_set, token_told, mismatch, after, Public, Replies, public}
 use Rattle.key_pin.specs.Query.{Query}
 use Rattle.key_pin.specs.Saved.{FitsPin, saved}
-use Rattle.key_pin.specs.State.{PinState, PinToken, new_pin_state, powered_up, spent, without_token, over, counted, with_pair}
+use Rattle.key_pin.specs.State.{PinState, PinToken, new_pin_state, powered_up, over, counted, with_pair}
 use Rattle.key_pin.specs.Steps.{verdict}
-
--- ---- what is done to it
-
-pub data Call : Type 0 where
-  handle : List (Asked × List ℕ) → PinWords → Query → Call
-  -- a request of clientPIN for which there was no memory: its key pair was taken; or its try was counted, too
-  begin : PinWords → Call
-  leave : List (Asked × List ℕ) → PinWords → Query → Call
-  verify : List (Asked × List ℕ) → Claim → Call
-  spend : Call
-  end_token : Call
-  give_up : Call
-  -- also where it is saved and loaded
-  power_up : Call
-  reset : Call
-
-abbrev pub next : Call → PinState → PinState
-next (handle es words q) s = after (verdict es words q s).outcome (verdict es words q s).state
-next (begin words) s = with_pair words s
-next (leave es words q) s = (verdict es words q s).state
-next (verify es c) s = after_grant (granted es c s.token) c.rp_id s
-next spend s = spent s
-next end_token s = without_token s
-next give_up s = over s
-next power_up s = powered_up s
-next reset s = new_pin_state
-
-abbrev pub nexts : List Call → PinState → PinState
-nexts [] s = s
-nexts (call ∷ calls) s = nexts calls (next call s)
 
 -- ---- what it keeps
 
@@ -183,6 +155,12 @@ pub record PinLaws : Type 0 where
       → (verdict es words q s).outcome ≡ Ok (token_told token sealed) → (next (handle es words q) s).token ≡ Some token
   -- and does not come back: a token in use was in use before these calls, or was handed to one of them
   pub never_again : (calls : List Call) (s : PinState) (t : PinToken) → (nexts calls s).token ≡ Some t → IsOf s.token t ⊎ IsAmong calls t
+  -- where none was in use, it was given by one of these calls for the right PIN, and by none since then was a PIN set, the key plugged in or reset,
+  -- or the token ended or replaced
+  pub given : (calls : List Call) (s : PinState) (t : PinToken) → s.token ≡ None → (nexts calls s).token ≡ Some t → IsGivenIn calls s t
+  -- and what is granted is granted by such a token, for this rp id and this hash
+  pub vouched : (calls : List Call) (s : PinState) (es : List (Asked × List ℕ)) (c : Claim) → s.token ≡ None
+      → granted es c (nexts calls s).token ≡ Ok tt → IsVouchedFor calls s es c
   -- a reply is the same whatever the hash of the PIN and the token are: the token stands in it as the host encrypted it
   pub hidden_hash : (a b : List ℕ) (p : Public) (bs : List ℕ) → Replies (Ok (pin_set a)) p bs → Replies (Ok (pin_set b)) p bs
   pub hidden_token : (a b : PinToken) (sealed : List ℕ) (p : Public) (bs : List ℕ) → Replies (Ok (token_told a sealed)) p bs → Replies (Ok (token_told b sealed)) p bs

@@ -7,5 +7,7 @@ pub mod Steps
 pub mod Grants
 pub mod Saved
 pub mod Brought
+pub mod Calls
+pub mod Given
 pub mod Laws
 pub mod Pieces
