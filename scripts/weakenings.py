@@ -23,6 +23,17 @@ REGISTERING = "agreement/proofs/RegistrationSteps.antt"
 ACCEPTED = "agreement/proofs/Accepted.antt"
 LIVED = "agreement/proofs/Lived.antt"
 ONE_RUN = "agreement/proofs/OneRun.antt"
+EVERYTHING = "agreement/proofs/Everything.antt"
+AGREEMENT = "agreement/specs/Agreement.antt"
+FORGERIES = "agreement/specs/Forgeries.antt"
+PAGES = "agreement/specs/Pages.antt"
+PAGED = "agreement/proofs/Pages.antt"
+STAYS = "agreement/specs/Stays.antt"
+STAYED = "agreement/proofs/Stayed.antt"
+BEGUN = "agreement/specs/Begun.antt"
+DROPPED = "agreement/specs/Dropped.antt"
+DROPPING = "agreement/proofs/Dropped.antt"
+REGISTERED = "agreement/proofs/Registered.antt"
 HOSTS = "agreement/specs/Hosts.antt"
 STORED = "site_stored/specs/Calls.antt"
 HISTORY = "stored_runs/specs/History.antt"
@@ -324,6 +335,59 @@ WEAKENINGS = [
         (SESSIONS, "  conditional = asks.conditional;\n", "  conditional = true;\n")]),
     ("session_attestation", "no session for registration asks for an attestation", [
         (SESSIONS, "  attestation = asks.attestation;\n", "  attestation = false;\n")]),
+    # what never happens, and laws that say nothing of the run that is shown
+    ("start_strict", "a world begins with strict sites alone", [
+        (WORLD, "  pub sites : (i : ℕ) → (w.site i).sessions.expected ≡ finite.empty\n",
+            "  pub sites : (i : ℕ) → (w.site i).sessions.expected ≡ finite.empty\n  pub strict : (i : ℕ) → (w.site i).rp.profile ≡ Strict\n"),
+        (WORLD, "use Rattle.authdata.specs.Responses as responses\n", "use Rattle.authdata.specs.Responses as responses\nuse Rattle.authdata.specs.declared.profile.Profile.TheVariants.{Strict}\n"),
+        (ONE_RUN, "      sites = λ i. refl;\n", "      sites = λ i. refl;\n      strict = λ i. refl;\n"),
+        (EVERYTHING, "start = record { sites = λ i. t.start.sites p.site;", "start = record { sites = λ i. t.start.sites p.site; strict = λ i. t.start.strict p.site;")]),
+    ("start_one_party", "a world begins with sites of one rp id", [
+        (WORLD, "  pub sites : (i : ℕ) → (w.site i).sessions.expected ≡ finite.empty\n",
+            "  pub sites : (i : ℕ) → (w.site i).sessions.expected ≡ finite.empty\n  pub one : (i : ℕ) → (w.site i).rp.rp_id ≡ (w.site 0).rp.rp_id\n"),
+        (ONE_RUN, "      sites = λ i. refl;\n", "      sites = λ i. refl;\n      one = λ i. refl;\n"),
+        (EVERYTHING, "start = record { sites = λ i. t.start.sites p.site;", "start = record { sites = λ i. t.start.sites p.site; one = λ i. refl;")]),
+    ("reset_never", "no reset is carried out", [
+        (STEPS, "  pub reply : ReplyOf reset_reply out.reply\n", "  pub reply : ⊥\n")]),
+    ("next_never", "each getNextAssertion is refused", [
+        (ORDERS, "    (is_none remembered, 0x30)\n    ∷ (next_is_at_end", "    (true, 0x30)\n    ∷ (next_is_at_end")]),
+    ("self_attested_never", "no authenticator attests by the key itself", [
+        (STEPS, "purpose = attestation; consent = consent } ∷ [])\n", "purpose = attestation; consent = consent } ∷ []) × ⊥\n")]),
+    ("forgery_ideal", "a forgery is shown only where no signature is forged", [
+        (FORGERIES, "WasMade m.old row.key\n      → (IsBacked", "WasMade m.old row.key → IsIdeal valid m\n      → (IsBacked"),
+        (FORGERIES, "{Consented, IsAccepted, RestsOn,", "{Consented, IsAccepted, IsIdeal, RestsOn,"),
+        (ACCEPTED, "shows = λ i n r row acc made not_backed. record {", "shows = λ i n r row acc made ideal not_backed. record {")]),
+    ("page_any_text", "no text at all may have the hash of the accepted client data", [
+        (PAGES, "    → All (λ t. sha256 t ≡ sha256 r.client_data → t ≡ r.client_data) texts\n", "    → ((t : List ℕ) → sha256 t ≡ sha256 r.client_data → t ≡ r.client_data)\n"),
+        (PAGED, "(clear : All (λ t. sha256 t ≡ sha256 r.client_data → t ≡ r.client_data) texts) where", "(clear : (t : List ℕ) → sha256 t ≡ sha256 r.client_data → t ≡ r.client_data) where"),
+        (PAGED, "        All-contains (λ (t : List ℕ). sha256 t ≡ sha256 r.client_data → t ≡ r.client_data) texts over.0 clear over.1 (sym over.2 ∙ same) in\n",
+            "        clear over.0 (sym over.2 ∙ same) in\n")]),
+    ("stays_alone", "a session stays open only while nothing happens", [
+        (STAYS, "All (λ m. IsEnd i n m → ⊥) between → IsOpen (world_after w (past ++ between)) i n x\n",
+            "All (λ m. IsEnd i n m → ⊥) between → between ≡ [] → IsOpen (world_after w (past ++ between)) i n x\n"),
+        (STAYED, "still_open = λ i n x there none. open_after", "still_open = λ i n x there none alone. open_after")]),
+    ("accepts_alone", "a session accepts what it would have accepted only while nothing happens", [
+        (STAYS, "IsOpen (world_after w past) i n x → All (λ m. IsEnd i n m → ⊥) between\n      → ((world_after",
+            "IsOpen (world_after w past) i n x → All (λ m. IsEnd i n m → ⊥) between → between ≡ []\n      → ((world_after"),
+        (STAYED, "accepted = λ i n x r there none party row passes.", "accepted = λ i n x r there none alone party row passes.")]),
+    ("shared_of_one_response", "two sign-ins share no entry only where their response is one", [
+        (AGREEMENT, "IsAccepted l i k t low → r.credential ≡ t.credential\n", "IsAccepted l i k t low → r ≡ t\n"),
+        (ACCEPTED, "(a.id ∙ same) ∙ al.tries.found in", "(a.id ∙ ap (λ (z : AuthenticatorAssertionResponse). z.credential) same) ∙ al.tries.found in")]),
+    ("begun_at_the_end", "what a session expects is told only where the run ends", [
+        (BEGUN, "IsRun valid public w (past ++ later)\n", "IsRun valid public w (past ++ later) → later ≡ []\n"),
+        (BEGUN, "use Rattle.std.specs.Prelude.{◌≡◌, ℕ, List, ◌∷◌,", "use Rattle.std.specs.Prelude.{◌≡◌, ℕ, List, [], ◌∷◌,"),
+        (BEGAN, "  began w past later start run =\n", "  began w past later start run ends =\n")]),
+    ("dropped_in_part", "a credential goes by what leaves some", [
+        (DROPPED, "    → credential_of c.id (m.old.holder k).state.credentials ≡ Some c → credential_of", "    → (m.new.holder k).state.credentials ≢ [] → credential_of c.id (m.old.holder k).state.credentials ≡ Some c → credential_of"),
+        (DROPPED, "use Rattle.std.specs.Prelude.{◌≡◌, ℕ, List, true,", "use Rattle.std.specs.Prelude.{◌≡◌, ◌≢◌, ℕ, List, [], true,"),
+        (DROPPING, "  dropped_of_all_runs w run is m there k c =\n", "  dropped_of_all_runs w run is m there k c some =\n")]),
+    ("registered_strict", "a registration is as it is said only at a strict site", [
+        (AGREEMENT, "IsAcceptedRegistration m i n r → FitsRegistration valid m i n r\n", "IsAcceptedRegistration m i n r → (m.old.site i).rp.profile ≡ Strict → FitsRegistration valid m i n r\n"),
+        (AGREEMENT, "Profile.TheVariants.{Level3}\n", "Profile.TheVariants.{Level3, Strict}\n"),
+        (REGISTERED, "  fits_registration m l i n r is =\n", "  fits_registration m l i n r is strict =\n")]),
+    ("deleted_alone", "a credential stays deleted only while nothing happens", [
+        (AGREEMENT, "HasNone (m.new.site i) id → All (λ x. (c : Credential) → Adds x i c → c.id ≢ id) between → HasNone", "HasNone (m.new.site i) id → All (λ x. (c : Credential) → Adds x i c → c.id ≢ id) between → between ≡ [] → HasNone"),
+        ("agreement/proofs/Deleted.antt", "  stays_deleted m between l lm s i id none each = s.none", "  stays_deleted m between l lm s i id none each alone = s.none")]),
     # hosts
     ("host_anything", "a host's relation may call anything valid", [
         (HOSTS, "(key : CoseKey) (message signature : List ℕ) → narrow key message signature → wide key message signature\n", "Unit {0}\n")]),

@@ -1,0 +1,10 @@
+pub mod Values
+pub mod Requests
+pub mod Making
+pub mod Answering
+pub mod Accepting
+pub mod Texts
+pub mod Moments
+pub mod Effects
+pub mod Told
+pub mod Forged
