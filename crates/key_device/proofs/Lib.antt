@@ -9,4 +9,5 @@ pub mod Showing
 pub mod Sound
 pub mod Stepping
 pub mod Taking
+pub mod Ungranted
 pub mod Waiting
