@@ -8,6 +8,7 @@ ghost use Rattle.cose.specs.Keys.{alg_of, argument_of, lent_key_view, number_of,
 ghost use Rattle.cose.specs.Reading.{members_view};
 ghost use Rattle.cose.specs.declared.key.CoseKey.TheVariants as keys;
 
+use crate::numbers::{algorithm, curve, key_type, label};
 use crate::reading::{Members, eddsa, es256, rs256};
 use crate::rsa::{RsaKey, RsaView};
 use ccbor::{Value, View};
@@ -144,11 +145,11 @@ fn es256_value(alloc: Global, x: &[u8; 32], y: &[u8; 32]) -> Result<Value, Alloc
     let x = Value::Bytes(Vec::from_slice(alloc, x)?);
     let y = Value::Bytes(Vec::from_slice(alloc, y)?);
     let pairs = vec![in alloc;
-        (Value::Uint(1), Value::Uint(2)),
-        (Value::Uint(3), Value::Nint(6)),
-        (Value::Nint(0), Value::Uint(1)),
-        (Value::Nint(1), x),
-        (Value::Nint(2), y),
+        (Value::Uint(label::KTY), Value::Uint(key_type::EC2)),
+        (Value::Uint(label::ALG), Value::Nint(algorithm::ES256)),
+        (Value::Nint(label::CRV), Value::Uint(curve::P256)),
+        (Value::Nint(label::X), x),
+        (Value::Nint(label::Y), y),
     ]?;
     Ok(Value::Map(pairs))
 }
@@ -159,10 +160,10 @@ fn eddsa_value(alloc: Global, x: &[u8; 32]) -> Result<Value, AllocError>
 {
     let x = Value::Bytes(Vec::from_slice(alloc, x)?);
     let pairs = vec![in alloc;
-        (Value::Uint(1), Value::Uint(1)),
-        (Value::Uint(3), Value::Nint(7)),
-        (Value::Nint(0), Value::Uint(6)),
-        (Value::Nint(1), x),
+        (Value::Uint(label::KTY), Value::Uint(key_type::OKP)),
+        (Value::Uint(label::ALG), Value::Nint(algorithm::EDDSA)),
+        (Value::Nint(label::CRV), Value::Uint(curve::ED25519)),
+        (Value::Nint(label::X), x),
     ]?;
     Ok(Value::Map(pairs))
 }
@@ -174,10 +175,10 @@ fn rs256_value(alloc: Global, key: &RsaView<'_>) -> Result<Value, AllocError>
     let n = Value::Bytes(Vec::from_slice(alloc, key.n)?);
     let e = Value::Bytes(Vec::from_slice(alloc, key.e)?);
     let pairs = vec![in alloc;
-        (Value::Uint(1), Value::Uint(3)),
-        (Value::Uint(3), Value::Nint(256)),
-        (Value::Nint(0), n),
-        (Value::Nint(1), e),
+        (Value::Uint(label::KTY), Value::Uint(key_type::RSA)),
+        (Value::Uint(label::ALG), Value::Nint(algorithm::RS256)),
+        (Value::Nint(label::N), n),
+        (Value::Nint(label::E), e),
     ]?;
     Ok(Value::Map(pairs))
 }

@@ -9,6 +9,10 @@ ghost use Rattle.cose.specs.Rsa.{RsaPublicKey};
 ghost use Rattle.cose.specs.declared.key.CoseKey.TheVariants as keys;
 
 use crate::key::KeyView;
+use crate::numbers::algorithm::{EDDSA, ES256, RS256};
+use crate::numbers::curve::{ED25519, P256};
+use crate::numbers::key_type::{EC2, OKP, RSA};
+use crate::numbers::label::{self, ALG, CRV, KTY};
 use crate::rsa::RsaView;
 use ccbor::{MapKey, MapView, Value, is_end, split_key};
 
@@ -84,11 +88,11 @@ fn coordinate<'a>(members: &Members<'a>, key: MapKey<'_>) -> Option<([u8; 32], M
 pub fn es256<'a>(members: &Members<'a>) -> Option<KeyView<'a>>
     ensures { option_map lent_key_view result ≡ es256_at (members_view members.now) }
 {
-    let members = constant(members, MapKey::Uint(1), MapKey::Uint(2))?;
-    let members = constant(&members, MapKey::Uint(3), MapKey::Nint(6))?;
-    let members = constant(&members, MapKey::Nint(0), MapKey::Uint(1))?;
-    let (x, members) = coordinate(&members, MapKey::Nint(1))?;
-    let (y, members) = coordinate(&members, MapKey::Nint(2))?;
+    let members = constant(members, MapKey::Uint(KTY), MapKey::Uint(EC2))?;
+    let members = constant(&members, MapKey::Uint(ALG), MapKey::Nint(ES256))?;
+    let members = constant(&members, MapKey::Nint(CRV), MapKey::Uint(P256))?;
+    let (x, members) = coordinate(&members, MapKey::Nint(label::X))?;
+    let (y, members) = coordinate(&members, MapKey::Nint(label::Y))?;
     if is_last(&members) {
         Some(KeyView::Es256 { x, y })
     } else {
@@ -101,10 +105,10 @@ pub fn es256<'a>(members: &Members<'a>) -> Option<KeyView<'a>>
 pub fn eddsa<'a>(members: &Members<'a>) -> Option<KeyView<'a>>
     ensures { option_map lent_key_view result ≡ eddsa_at (members_view members.now) }
 {
-    let members = constant(members, MapKey::Uint(1), MapKey::Uint(1))?;
-    let members = constant(&members, MapKey::Uint(3), MapKey::Nint(7))?;
-    let members = constant(&members, MapKey::Nint(0), MapKey::Uint(6))?;
-    let (x, members) = coordinate(&members, MapKey::Nint(1))?;
+    let members = constant(members, MapKey::Uint(KTY), MapKey::Uint(OKP))?;
+    let members = constant(&members, MapKey::Uint(ALG), MapKey::Nint(EDDSA))?;
+    let members = constant(&members, MapKey::Nint(CRV), MapKey::Uint(ED25519))?;
+    let (x, members) = coordinate(&members, MapKey::Nint(label::X))?;
     if is_last(&members) {
         Some(KeyView::EdDsa { x })
     } else {
@@ -117,10 +121,10 @@ pub fn eddsa<'a>(members: &Members<'a>) -> Option<KeyView<'a>>
 fn rsa<'a>(members: &Members<'a>) -> Option<(&'a [u8], &'a [u8])>
     ensures { option_map (λ x. record { n = x.0.now; e = x.1.now }) result ≡ rsa_at (members_view members.now) }
 {
-    let members = constant(members, MapKey::Uint(1), MapKey::Uint(3))?;
-    let members = constant(&members, MapKey::Uint(3), MapKey::Nint(256))?;
-    let (n, members) = bytes(&members, MapKey::Nint(0))?;
-    let (e, members) = bytes(&members, MapKey::Nint(1))?;
+    let members = constant(members, MapKey::Uint(KTY), MapKey::Uint(RSA))?;
+    let members = constant(&members, MapKey::Uint(ALG), MapKey::Nint(RS256))?;
+    let (n, members) = bytes(&members, MapKey::Nint(label::N))?;
+    let (e, members) = bytes(&members, MapKey::Nint(label::E))?;
     if is_last(&members) {
         Some((n, e))
     } else {

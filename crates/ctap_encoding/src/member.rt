@@ -22,14 +22,23 @@ pub mod make_credential {
     /// `extensions`.
     pub const EXTENSIONS: MapKey<'static> = MapKey::Uint(0x06);
 
+    /// `options`, as a number.
+    pub const OPTIONS_NUMBER: u64 = 0x07;
+
     /// `options`.
-    pub const OPTIONS: MapKey<'static> = MapKey::Uint(0x07);
+    pub const OPTIONS: MapKey<'static> = MapKey::Uint(OPTIONS_NUMBER);
+
+    /// `pinUvAuthParam`, as a number.
+    pub const PIN_UV_AUTH_PARAM_NUMBER: u64 = 0x08;
 
     /// `pinUvAuthParam`.
-    pub const PIN_UV_AUTH_PARAM: MapKey<'static> = MapKey::Uint(0x08);
+    pub const PIN_UV_AUTH_PARAM: MapKey<'static> = MapKey::Uint(PIN_UV_AUTH_PARAM_NUMBER);
+
+    /// `pinUvAuthProtocol`, as a number.
+    pub const PIN_UV_AUTH_PROTOCOL_NUMBER: u64 = 0x09;
 
     /// `pinUvAuthProtocol`.
-    pub const PIN_UV_AUTH_PROTOCOL: MapKey<'static> = MapKey::Uint(0x09);
+    pub const PIN_UV_AUTH_PROTOCOL: MapKey<'static> = MapKey::Uint(PIN_UV_AUTH_PROTOCOL_NUMBER);
 }
 
 /// A reply to authenticatorMakeCredential (section 6.1).
@@ -68,34 +77,58 @@ pub mod get_assertion {
     /// `extensions`.
     pub const EXTENSIONS: MapKey<'static> = MapKey::Uint(0x04);
 
+    /// `options`, as a number.
+    pub const OPTIONS_NUMBER: u64 = 0x05;
+
     /// `options`.
-    pub const OPTIONS: MapKey<'static> = MapKey::Uint(0x05);
+    pub const OPTIONS: MapKey<'static> = MapKey::Uint(OPTIONS_NUMBER);
+
+    /// `pinUvAuthParam`, as a number.
+    pub const PIN_UV_AUTH_PARAM_NUMBER: u64 = 0x06;
 
     /// `pinUvAuthParam`.
-    pub const PIN_UV_AUTH_PARAM: MapKey<'static> = MapKey::Uint(0x06);
+    pub const PIN_UV_AUTH_PARAM: MapKey<'static> = MapKey::Uint(PIN_UV_AUTH_PARAM_NUMBER);
+
+    /// `pinUvAuthProtocol`, as a number.
+    pub const PIN_UV_AUTH_PROTOCOL_NUMBER: u64 = 0x07;
 
     /// `pinUvAuthProtocol`.
-    pub const PIN_UV_AUTH_PROTOCOL: MapKey<'static> = MapKey::Uint(0x07);
+    pub const PIN_UV_AUTH_PROTOCOL: MapKey<'static> = MapKey::Uint(PIN_UV_AUTH_PROTOCOL_NUMBER);
 }
 
 /// A reply to authenticatorGetAssertion or authenticatorGetNextAssertion (sections 6.2 and 6.3).
 pub mod get_assertion_reply {
     use ccbor::MapKey;
 
+    /// `credential`, as a number.
+    pub const CREDENTIAL_NUMBER: u64 = 0x01;
+
     /// `credential`.
-    pub const CREDENTIAL: MapKey<'static> = MapKey::Uint(0x01);
+    pub const CREDENTIAL: MapKey<'static> = MapKey::Uint(CREDENTIAL_NUMBER);
+
+    /// `authData`, as a number.
+    pub const AUTH_DATA_NUMBER: u64 = 0x02;
 
     /// `authData`.
-    pub const AUTH_DATA: MapKey<'static> = MapKey::Uint(0x02);
+    pub const AUTH_DATA: MapKey<'static> = MapKey::Uint(AUTH_DATA_NUMBER);
+
+    /// `signature`, as a number.
+    pub const SIGNATURE_NUMBER: u64 = 0x03;
 
     /// `signature`.
-    pub const SIGNATURE: MapKey<'static> = MapKey::Uint(0x03);
+    pub const SIGNATURE: MapKey<'static> = MapKey::Uint(SIGNATURE_NUMBER);
+
+    /// `user`, as a number.
+    pub const USER_NUMBER: u64 = 0x04;
 
     /// `user`.
-    pub const USER: MapKey<'static> = MapKey::Uint(0x04);
+    pub const USER: MapKey<'static> = MapKey::Uint(USER_NUMBER);
+
+    /// `numberOfCredentials`, as a number.
+    pub const NUMBER_OF_CREDENTIALS_NUMBER: u64 = 0x05;
 
     /// `numberOfCredentials`.
-    pub const NUMBER_OF_CREDENTIALS: MapKey<'static> = MapKey::Uint(0x05);
+    pub const NUMBER_OF_CREDENTIALS: MapKey<'static> = MapKey::Uint(NUMBER_OF_CREDENTIALS_NUMBER);
 
     /// `userSelected`.
     pub const USER_SELECTED: MapKey<'static> = MapKey::Uint(0x06);
@@ -195,4 +228,21 @@ pub mod client_pin_reply {
 
     /// `uvRetries`.
     pub const UV_RETRIES: MapKey<'static> = MapKey::Uint(0x05);
+}
+
+/// The input of the extension `hmac-secret` to authenticatorGetAssertion (section 12.5).
+pub mod hmac_secret {
+    use ccbor::MapKey;
+
+    /// `keyAgreement`.
+    pub const KEY_AGREEMENT: MapKey<'static> = MapKey::Uint(0x01);
+
+    /// `saltEnc`.
+    pub const SALT_ENC: MapKey<'static> = MapKey::Uint(0x02);
+
+    /// `saltAuth`.
+    pub const SALT_AUTH: MapKey<'static> = MapKey::Uint(0x03);
+
+    /// `pinUvAuthProtocol`.
+    pub const PIN_UV_AUTH_PROTOCOL: MapKey<'static> = MapKey::Uint(0x04);
 }

@@ -75,13 +75,13 @@ same_item (Some x) = refl
 same_item None = refl
 
 -- the options and the proof of a token are pushed
-pub pushed_end : (label : ℕ) (o : CreationFlags) (auth : Option Auth) (s t : List (Item × Item)) (ps : Pairs) → t ≡ with_end label o auth s
-    → onto t ps ≡ onto s (member_pair false (uint label) (item_of (record_of creation_options_members)) (options_content o)
-    (member_pair false (uint (label + 1)) bytes (option_map (λ a. a.param) auth)
-    (member_pair false (uint (label + 2)) uint (option_map (λ a. a.protocol) auth) ps)))
-pushed_end label o auth s t ps is =
-    let options = s ++ member_list (uint label) (option_map (item_of (record_of creation_options_members)) (options_content o)) in
-    let param = options ++ member_list (uint (label + 1)) (option_map bytes (option_map (λ a. a.param) auth)) in
-    pushed_if_there uint _ param t (uint (label + 2)) _ ps is refl
-    ∙ pushed_if_there bytes _ options param (uint (label + 1)) _ _ refl refl
-    ∙ pushed_if_there (item_of (record_of creation_options_members)) _ s options (uint label) _ _ refl refl
+pub pushed_end : (first second third : Item) (o : CreationFlags) (auth : Option Auth) (s t : List (Item × Item)) (ps : Pairs) → t ≡ with_end first second third o auth s
+    → onto t ps ≡ onto s (member_pair false first (item_of (record_of creation_options_members)) (options_content o)
+    (member_pair false second bytes (option_map (λ a. a.param) auth)
+    (member_pair false third uint (option_map (λ a. a.protocol) auth) ps)))
+pushed_end first second third o auth s t ps is =
+    let options = s ++ member_list first (option_map (item_of (record_of creation_options_members)) (options_content o)) in
+    let param = options ++ member_list second (option_map bytes (option_map (λ a. a.param) auth)) in
+    pushed_if_there uint _ param t third _ ps is refl
+    ∙ pushed_if_there bytes _ options param second _ _ refl refl
+    ∙ pushed_if_there (item_of (record_of creation_options_members)) _ s options first _ _ refl refl

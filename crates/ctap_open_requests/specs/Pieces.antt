@@ -1,5 +1,5 @@
 -- What the private functions of these requests are proved against; no public clause cites it.
-use Rattle.std.specs.Prelude.{◌≡◌, ◌++◌, ◌+◌, ℕ, ◌<◌, ◌≤◌, List, length, true, false, Option, option_map, Result, Ok, Err}
+use Rattle.std.specs.Prelude.{◌≡◌, ◌++◌, ℕ, ◌<◌, ◌≤◌, List, length, true, false, Option, option_map, Result, Ok, Err}
 use Rattle.ccbor.specs.Item.{Item, bytes, uint}
 use Rattle.ctap_encoding.specs.Building.{member_list}
 use Rattle.ctap_encoding.specs.Content.{item_of}
@@ -27,9 +27,9 @@ Finishes items max of (Err errors.Unfit) = (bs : List ℕ) → of bs → ⊥
 Finishes items max of (Err errors.MessageTooLong) = (bs : List ℕ) × of bs × (max < length bs)
 Finishes items max of (Err _) = ⊥
 
--- these pairs, and after them those of the options and of the proof of a token, by three labels
-abbrev pub with_end : ℕ → CreationFlags → Option Auth → List (Item × Item) → List (Item × Item)
-with_end label options auth ps =
-    ((ps ++ member_list (uint label) (option_map (item_of (record_of creation_options_members)) (options_content options)))
-    ++ member_list (uint (label + 1)) (option_map bytes (option_map (λ a. a.param) auth)))
-    ++ member_list (uint (label + 2)) (option_map uint (option_map (λ a. a.protocol) auth))
+-- these pairs, and after them those of the options and of the proof of a token, by three keys
+abbrev pub with_end : (options_key param protocol : Item) → CreationFlags → Option Auth → List (Item × Item) → List (Item × Item)
+with_end options_key param protocol options auth ps =
+    ((ps ++ member_list options_key (option_map (item_of (record_of creation_options_members)) (options_content options)))
+    ++ member_list param (option_map bytes (option_map (λ a. a.param) auth)))
+    ++ member_list protocol (option_map uint (option_map (λ a. a.protocol) auth))

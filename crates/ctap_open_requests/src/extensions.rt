@@ -9,6 +9,7 @@ ghost use Rattle.ctap_open_requests.specs.Extensions.{assertion_inputs, assertio
 ghost use Rattle.ctap_open_requests.specs.ExtensionView.{assertion_inputs_view, creation_inputs_view, secret_view};
 
 use ccbor::{MapKey, Value};
+use ctap_encoding::member::hmac_secret;
 use ctap_encoding::{bytes_value, push_if_there, push_member};
 use pin_client_messages::{Point, bytes_if_there, number_if_there, point_value};
 use std::alloc::{AllocError, Global};
@@ -102,13 +103,18 @@ fn secret_value(alloc: Global, secret: &HmacSecret<'_>) -> Result<Value, AllocEr
 {
     let mut pairs = Vec::new(alloc);
     let key = point_value(alloc, &secret.key)?;
-    push_member(alloc, &mut pairs, MapKey::Uint(1), key)?;
+    push_member(alloc, &mut pairs, hmac_secret::KEY_AGREEMENT, key)?;
     let salt_enc = bytes_value(alloc, secret.salt_enc)?;
-    push_member(alloc, &mut pairs, MapKey::Uint(2), salt_enc)?;
+    push_member(alloc, &mut pairs, hmac_secret::SALT_ENC, salt_enc)?;
     let salt_auth = bytes_value(alloc, secret.salt_auth)?;
-    push_member(alloc, &mut pairs, MapKey::Uint(3), salt_auth)?;
+    push_member(alloc, &mut pairs, hmac_secret::SALT_AUTH, salt_auth)?;
     let protocol = number_if_there(named_protocol(secret.protocol));
-    push_if_there(alloc, &mut pairs, MapKey::Uint(4), protocol)?;
+    push_if_there(
+        alloc,
+        &mut pairs,
+        hmac_secret::PIN_UV_AUTH_PROTOCOL,
+        protocol,
+    )?;
     Ok(Value::Map(pairs))
 }
 

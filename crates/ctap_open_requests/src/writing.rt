@@ -1,6 +1,7 @@
 //! Writing a request.
 
 ghost use Rattle.std.specs.Prelude.{◌≡◌, ◌⊎◌, [], ◌∷◌, ◌<◌, ◌≤◌, ℕ, List, IfOk, IfErr, IsErrOf, OnOk, None, length, map, option_map};
+ghost use Rattle.ccbor.specs.Access.{key_item};
 ghost use Rattle.ccbor.specs.Canon.{Canon};
 ghost use Rattle.ccbor.specs.Item.{map as map_of};
 ghost use Rattle.ccbor.specs.View.{pairs_view, view};
@@ -40,25 +41,25 @@ fn auth_members<'a>(auth: Option<PinUvAuth<'a>>) -> (Option<&'a [u8]>, Option<u6
     }
 }
 
-/// Adds the options and the proof of a token, by three labels of which this is the first.
+/// Adds the options and the proof of a token: `pinUvAuthParam` and `pinUvAuthProtocol`, each by its key.
 fn push_end(
     alloc: Global,
     pairs: &mut Vec<(Value, Value)>,
-    label: u64,
+    keys: (MapKey<'_>, MapKey<'_>, MapKey<'_>),
     options: &Options,
     auth: Option<PinUvAuth<'_>>,
 ) -> Result<(), AllocError>
-    requires { label ≤ 7 }
     ensures { OnOk result (pair_list_view pairs.new.items
-        ≡ with_end label (options_view options.now) (option_map auth_view auth.entry) (pair_list_view pairs.old.items)) }
+        ≡ with_end (key_item keys.entry.0) (key_item keys.entry.1) (key_item keys.entry.2) (options_view options.now) (option_map auth_view auth.entry) (pair_list_view pairs.old.items)) }
 {
+    let (options_key, param_key, protocol_key) = keys;
     let options = options_if_there(alloc, options)?;
-    push_if_there(alloc, pairs, MapKey::Uint(label), options)?;
+    push_if_there(alloc, pairs, options_key, options)?;
     let (param, protocol) = auth_members(auth);
     let param = bytes_if_there(alloc, param)?;
-    push_if_there(alloc, pairs, MapKey::Uint(label + 1), param)?;
+    push_if_there(alloc, pairs, param_key, param)?;
     let protocol = number_if_there(protocol);
-    push_if_there(alloc, pairs, MapKey::Uint(label + 2), protocol)?;
+    push_if_there(alloc, pairs, protocol_key, protocol)?;
     Ok(())
 }
 
@@ -92,7 +93,12 @@ fn push_creation(
         make_credential::EXTENSIONS,
         request.extensions,
     )?;
-    push_end(alloc, pairs, 7, &request.options, request.auth)?;
+    let keys = (
+        make_credential::OPTIONS,
+        make_credential::PIN_UV_AUTH_PARAM,
+        make_credential::PIN_UV_AUTH_PROTOCOL,
+    );
+    push_end(alloc, pairs, keys, &request.options, request.auth)?;
     Ok(())
 }
 
@@ -126,7 +132,12 @@ fn push_assertion(
         up: request.options.up,
         uv: request.options.uv,
     };
-    push_end(alloc, pairs, 5, &options, request.auth)?;
+    let keys = (
+        get_assertion::OPTIONS,
+        get_assertion::PIN_UV_AUTH_PARAM,
+        get_assertion::PIN_UV_AUTH_PROTOCOL,
+    );
+    push_end(alloc, pairs, keys, &options, request.auth)?;
     Ok(())
 }
 

@@ -14,6 +14,10 @@ ghost use Rattle.ctap_encoding.specs.declared.error.Error.TheVariants as errors;
 use crate::reply::{AssertionReply, AssertionView};
 use ccbor::{append_bytes, append_map_head, append_text, append_unsigned};
 use ctap_encoding::Error;
+use ctap_encoding::member::get_assertion_reply::{
+    AUTH_DATA_NUMBER, CREDENTIAL_NUMBER, NUMBER_OF_CREDENTIALS_NUMBER, SIGNATURE_NUMBER,
+    USER_NUMBER,
+};
 use ctap_encoding::status::OK;
 use std::alloc::{AllocError, Global};
 
@@ -85,7 +89,7 @@ fn put_user_if_there(user: Option<&[u8]>, out: &mut Vec<u8>) -> Result<(), Alloc
 {
     match user {
         Some(user) => {
-            append_unsigned(4, out)?;
+            append_unsigned(USER_NUMBER, out)?;
             put_user(user, out)
         }
         None => Ok(()),
@@ -98,7 +102,7 @@ fn put_number_if_there(number: Option<u64>, out: &mut Vec<u8>) -> Result<(), All
 {
     match number {
         Some(number) => {
-            append_unsigned(5, out)?;
+            append_unsigned(NUMBER_OF_CREDENTIALS_NUMBER, out)?;
             append_unsigned(number, out)
         }
         None => Ok(()),
@@ -121,11 +125,11 @@ fn member_count(reply: &AssertionView<'_>) -> u64
 fn put_required(reply: &AssertionView<'_>, out: &mut Vec<u8>) -> Result<(), AllocError>
     ensures { OnOk result (out.new.items ≡ out.old.items ++ required_bytes (lent_assertion_view reply.now)) }
 {
-    append_unsigned(1, out)?;
+    append_unsigned(CREDENTIAL_NUMBER, out)?;
     put_credential(reply.credential, out)?;
-    append_unsigned(2, out)?;
+    append_unsigned(AUTH_DATA_NUMBER, out)?;
     append_bytes(reply.auth_data, out)?;
-    append_unsigned(3, out)?;
+    append_unsigned(SIGNATURE_NUMBER, out)?;
     append_bytes(reply.signature, out)
 }
 

@@ -12,6 +12,7 @@ ghost use Rattle.pin_client_messages.specs.ReplyView.{key_view, reply_view};
 
 use crate::reply::{AgreementKey, PinReply};
 use ccbor::{MapKey, View};
+use cose::label;
 use ctap_encoding::member::client_pin_reply;
 use ctap_encoding::{Shape, any_map};
 use ctap_open_replies::{
@@ -22,11 +23,11 @@ fn agreement_key<'a>(value: &View<'a>) -> Result<AgreementKey<'a>, Shape>
     ensures { Yields (λ k. key_content (key_view k)) result (open_in (record_of key_members) (shown value.now)) }
 {
     any_map(value)?;
-    let kty = number_at(value, MapKey::Uint(1))?;
-    let alg = number_at(value, MapKey::Uint(3))?;
-    let crv = number_at(value, MapKey::Nint(0))?;
-    let x = sized_bytes_at(value, MapKey::Nint(1), 32, 32)?;
-    let y = sized_bytes_at(value, MapKey::Nint(2), 32, 32)?;
+    let kty = number_at(value, MapKey::Uint(label::KTY))?;
+    let alg = number_at(value, MapKey::Uint(label::ALG))?;
+    let crv = number_at(value, MapKey::Nint(label::CRV))?;
+    let x = sized_bytes_at(value, MapKey::Nint(label::X), 32, 32)?;
+    let y = sized_bytes_at(value, MapKey::Nint(label::Y), 32, 32)?;
     Ok(AgreementKey {
         kty,
         alg,

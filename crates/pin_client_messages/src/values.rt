@@ -11,6 +11,7 @@ ghost use Rattle.pin_client_messages.specs.Pieces.{content_of};
 
 use crate::command::{PinMembers, Point};
 use ccbor::Value;
+use cose::{algorithm, curve, key_type, label};
 use ctap_encoding::member::client_pin;
 use ctap_encoding::{bytes_value, push_if_there, push_member, text_value};
 use std::alloc::{AllocError, Global};
@@ -22,11 +23,14 @@ pub fn point_value(alloc: Global, point: &Point<'_>) -> Result<Value, AllocError
     let x = bytes_value(alloc, point.x)?;
     let y = bytes_value(alloc, point.y)?;
     let pairs = vec![in alloc;
-        (Value::Uint(1), Value::Uint(2)),
-        (Value::Uint(3), Value::Nint(24)),
-        (Value::Nint(0), Value::Uint(1)),
-        (Value::Nint(1), x),
-        (Value::Nint(2), y),
+        (Value::Uint(label::KTY), Value::Uint(key_type::EC2)),
+        (
+            Value::Uint(label::ALG),
+            Value::Nint(algorithm::ECDH_ES_HKDF_256)
+        ),
+        (Value::Nint(label::CRV), Value::Uint(curve::P256)),
+        (Value::Nint(label::X), x),
+        (Value::Nint(label::Y), y),
     ]?;
     Ok(Value::Map(pairs))
 }

@@ -14,22 +14,23 @@ use crate::command::{PinCommand, PinMembers};
 use crate::subcommand;
 use crate::values::members_value;
 use ccbor::{MapKey, Value, encode};
+use cose::label;
 use ctap_encoding::command::CLIENT_PIN;
 use ctap_encoding::member::client_pin;
 use ctap_encoding::{Error, Fault, Holds, gravest};
 use std::alloc::{AllocError, Global};
 
 const KEY: Holds = Holds::Record(&[
-    (MapKey::Uint(1), true, Holds::Number),
-    (MapKey::Uint(3), true, Holds::Number),
-    (MapKey::Nint(0), true, Holds::Number),
+    (MapKey::Uint(label::KTY), true, Holds::Number),
+    (MapKey::Uint(label::ALG), true, Holds::Number),
+    (MapKey::Nint(label::CRV), true, Holds::Number),
     (
-        MapKey::Nint(1),
+        MapKey::Nint(label::X),
         true,
         Holds::Sized(32, 32, Fault::InvalidSize, &Holds::Bytes),
     ),
     (
-        MapKey::Nint(2),
+        MapKey::Nint(label::Y),
         true,
         Holds::Sized(32, 32, Fault::InvalidSize, &Holds::Bytes),
     ),

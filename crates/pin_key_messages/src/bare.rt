@@ -17,6 +17,7 @@ use crate::reading::{after, whole};
 use ccbor::{MapKey, MapView, Value, View, encode};
 use ctap_encoding::Error;
 use ctap_encoding::command::{GET_ASSERTION, MAKE_CREDENTIAL};
+use ctap_encoding::member::{get_assertion, make_credential};
 use ctap_encoding::status::{CBOR_UNEXPECTED_TYPE, INVALID_COMMAND};
 use ctap_requests::{
     AssertionOptions, CreationOptions, GetAssertion, MakeCredential, Request, read_request,
@@ -118,10 +119,22 @@ fn unprotected(alloc: Global, request: &[u8]) -> Result<Vec<u8>, Error>
     ensures refused { IfErr result RefusedBytes }
 {
     if let Some(rest) = after(request, MAKE_CREDENTIAL) {
-        return bytes_without(alloc, MAKE_CREDENTIAL, rest, 8, 9);
+        return bytes_without(
+            alloc,
+            MAKE_CREDENTIAL,
+            rest,
+            make_credential::PIN_UV_AUTH_PARAM_NUMBER,
+            make_credential::PIN_UV_AUTH_PROTOCOL_NUMBER,
+        );
     }
     match after(request, GET_ASSERTION) {
-        Some(rest) => bytes_without(alloc, GET_ASSERTION, rest, 6, 7),
+        Some(rest) => bytes_without(
+            alloc,
+            GET_ASSERTION,
+            rest,
+            get_assertion::PIN_UV_AUTH_PARAM_NUMBER,
+            get_assertion::PIN_UV_AUTH_PROTOCOL_NUMBER,
+        ),
         None => Err(Error::Status(INVALID_COMMAND)),
     }
 }

@@ -11,6 +11,7 @@ use crate::maps::protection;
 use crate::reading::{after, whole};
 use ctap_encoding::Error;
 use ctap_encoding::command::{GET_ASSERTION, MAKE_CREDENTIAL};
+use ctap_encoding::member::{get_assertion, make_credential};
 use ctap_encoding::status::{CBOR_UNEXPECTED_TYPE, INVALID_COMMAND};
 
 /// What the map after a command byte says, by the numbers of its members.
@@ -39,10 +40,20 @@ pub fn read_param(request: &[u8]) -> Result<ParamView<'_>, Error>
     ensures refused { IfErr result (λ e. RefusedProtection request.now e) }
 {
     if let Some(rest) = after(request, MAKE_CREDENTIAL) {
-        return param_in(rest, 7, 8, 9);
+        return param_in(
+            rest,
+            make_credential::OPTIONS_NUMBER,
+            make_credential::PIN_UV_AUTH_PARAM_NUMBER,
+            make_credential::PIN_UV_AUTH_PROTOCOL_NUMBER,
+        );
     }
     match after(request, GET_ASSERTION) {
-        Some(rest) => param_in(rest, 5, 6, 7),
+        Some(rest) => param_in(
+            rest,
+            get_assertion::OPTIONS_NUMBER,
+            get_assertion::PIN_UV_AUTH_PARAM_NUMBER,
+            get_assertion::PIN_UV_AUTH_PROTOCOL_NUMBER,
+        ),
         None => Err(Error::Status(INVALID_COMMAND)),
     }
 }

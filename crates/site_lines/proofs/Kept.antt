@@ -1,12 +1,13 @@
 -- What an act that is not carried out leaves, and what one look after another leaves.
 use Rattle.std.specs.Prelude.{IfErr, IfOk, Ok, Err}
 use Rattle.std.specs.declared.result.Result.{Result}
-use Rattle.std.proofs.Common.{◌≡◌, ℕ, Bool, List, Option, ap, refl, sym, subst, ◌∙◌, false, true≢false}
+use Rattle.std.proofs.Common.{◌≡◌, ℕ, arith, Bool, List, Option, ap, refl, sym, subst, ◌∙◌, false, true≢false}
 use Rattle.sqlite_trees.specs.View.{IsClean, View}
 use Rattle.sqlite_trees.specs.declared.store.Store.{Ghosts}
 use Rattle.cose.specs.declared.key.Alg.{Alg}
 use Rattle.site_state.specs.Sessions.{Opening, OpensRegistration, OpensSignIn}
 use Rattle.site_state.specs.declared.session.Asks.{Asks}
+use Rattle.site_rows.specs.Calls.{IsQuiet}
 use Rattle.site_rows.specs.Held.{Placed}
 use Rattle.site_stored.specs.State.{IsHeld, StoredState}
 use Rattle.site_stored.specs.Calls.{IsFailure, IsNotBegun, IsSame}
@@ -37,6 +38,13 @@ same_then view old mid new one two = record {
   is = two.is ∙ ap (λ (s : StoredState _). record s { store = new.store }) one.is;
   clean = λ c. one.clean (two.clean c);
   store = λ c. two.store c ∙ ap {A = View} (λ v. record v { cursors = (view new.store).cursors }) (one.store (two.clean c));
+}
+
+pub quiet_then : {S : Type 0} (g : Ghosts S) (old mid new : S) → IsQuiet g old mid → IsQuiet g mid new → IsQuiet g old new
+quiet_then g old mid new one two = record {
+  clean = λ c. one.clean (two.clean c);
+  counts = omega (arith, one.counts, two.counts);
+  crash = λ db r. one.crash db (two.crash db r);
 }
 
 pub failure_then : {S : Type 0} (view : S → View) (old mid new : StoredState S) (why : Failure) → old.is_shut ≡ false → IsSame view old mid

@@ -1,8 +1,8 @@
 //! Carrying out an act.
 
-ghost use Rattle.std.specs.Prelude.{◌≡◌, ◌≤◌, IfErr, IfOk, None, OnOk, Some, false, map, option_map};
-ghost use Rattle.sqlite_trees.specs.Tree.{Trees};
+ghost use Rattle.std.specs.Prelude.{◌≡◌, IfErr, IfOk, None, OnOk, Some, false, map, option_map};
 ghost use Rattle.sqlite_trees.specs.View.{IsClean};
+ghost use Rattle.site_rows.specs.Calls.{IsQuiet};
 ghost use Rattle.site_lines.specs.Answers.{Keeps, Tells, TellsAbandoned, TellsDeleted, TellsErased, TellsRetired, TellsRetiredAll, TellsRows, TellsStatus};
 ghost use Rattle.site_lines.specs.Details.{AreKnown, ForgetsDetail, ForgetsDetails, TellsDetails, TellsRowDetails};
 ghost use Rattle.site_lines.specs.Causes.{AreTooMany, FailsBy, FailsIn, FailsShut, IsCausedIn, RefusesRetire, RefusesRetireAll};
@@ -28,8 +28,7 @@ fn retire<S: Store>(site: &mut StoredSite<S>, credential: &[u8], now: u64) -> An
     ensures told { TellsRetired S.Store.view now credential.now site.old site.new result }
     ensures kept { Keeps S.Store.view site.old site.new result }
     ensures cause { FailsBy S.Store.view S.Store.faults site.old site.new (RefusesRetire (S.Store.view site.old.store) credential.now) (IsDamaged (S.Store.view site.old.store).trees) result }
-    ensures counts { S.Store.faults site.old.store ≤ S.Store.faults site.new.store }
-    ensures crash { (db : Trees) → S.Store.recovers site.new.store db → S.Store.recovers site.old.store db }
+    ensures quiet { IsQuiet S.Store site.old.store site.new.store }
 {
     match site.retire(credential, now) {
         Ok(was) => Answer::Retired(was),
@@ -43,8 +42,7 @@ fn delete<S: Store>(site: &mut StoredSite<S>, credential: &[u8], now: u64) -> An
     ensures details { ForgetsDetail S.Store.view credential.now site.old site.new result }
     ensures kept { Keeps S.Store.view site.old site.new result }
     ensures cause { FailsBy S.Store.view S.Store.faults site.old site.new (RefusesEnding ended_user_tree (S.Store.view site.old.store)) (IsDamaged (S.Store.view site.old.store).trees) result }
-    ensures counts { S.Store.faults site.old.store ≤ S.Store.faults site.new.store }
-    ensures crash { (db : Trees) → S.Store.recovers site.new.store db → S.Store.recovers site.old.store db }
+    ensures quiet { IsQuiet S.Store site.old.store site.new.store }
 {
     match site.delete(credential, now) {
         Ok(was) => Answer::Deleted(was),
@@ -57,8 +55,7 @@ fn retire_all<S: Store>(site: &mut StoredSite<S>, user: &[u8], now: u64) -> Answ
     ensures told { TellsRetiredAll S.Store.view now user.now site.old site.new result }
     ensures kept { Keeps S.Store.view site.old site.new result }
     ensures cause { FailsBy S.Store.view S.Store.faults site.old site.new (RefusesRetireAll (S.Store.view site.old.store) user.now) (stored.AreTooMany user.now (S.Store.view site.old.store).trees) result }
-    ensures counts { S.Store.faults site.old.store ≤ S.Store.faults site.new.store }
-    ensures crash { (db : Trees) → S.Store.recovers site.new.store db → S.Store.recovers site.old.store db }
+    ensures quiet { IsQuiet S.Store site.old.store site.new.store }
 {
     match site.retire_all(user, now) {
         Ok(count) => Answer::RetiredAll(count),
@@ -72,8 +69,7 @@ fn erase<S: Store>(site: &mut StoredSite<S>, user: &[u8], now: u64) -> Answer
     ensures details { ForgetsDetails S.Store.view user.now site.old site.new result }
     ensures kept { Keeps S.Store.view site.old site.new result }
     ensures cause { FailsBy S.Store.view S.Store.faults site.old site.new (RefusesEnding ended_user_tree (S.Store.view site.old.store)) (stored.AreTooMany user.now (S.Store.view site.old.store).trees) result }
-    ensures counts { S.Store.faults site.old.store ≤ S.Store.faults site.new.store }
-    ensures crash { (db : Trees) → S.Store.recovers site.new.store db → S.Store.recovers site.old.store db }
+    ensures quiet { IsQuiet S.Store site.old.store site.new.store }
 {
     match site.erase(user, now) {
         Ok(count) => Answer::Erased(count),
@@ -86,8 +82,7 @@ fn abandon<S: Store>(site: &mut StoredSite<S>, session: &[u8], now: u64) -> Answ
     ensures told { TellsAbandoned S.Store.view now session.now site.old site.new result }
     ensures kept { Keeps S.Store.view site.old site.new result }
     ensures cause { FailsBy S.Store.view S.Store.faults site.old site.new (RefusesEnding ended_session_tree (S.Store.view site.old.store)) (IsUnknownEnding ended_session_tree (S.Store.view site.old.store).trees) result }
-    ensures counts { S.Store.faults site.old.store ≤ S.Store.faults site.new.store }
-    ensures crash { (db : Trees) → S.Store.recovers site.new.store db → S.Store.recovers site.old.store db }
+    ensures quiet { IsQuiet S.Store site.old.store site.new.store }
 {
     match site.abandon(session, now) {
         Ok(was) => Answer::Abandoned(was),
@@ -117,10 +112,8 @@ fn known_of<S: Store>(
     ensures known { IfOk result (λ list. AreKnown S.Store.view site.old site.new (map (λ r. r.id.items) rows.now) list.items) }
     ensures same { OnOk result (IsSame S.Store.view site.old site.new) }
     ensures unknown { IfErr result (IsUnknown S.Store.view site.old site.new) }
-    ensures clean { IsClean (S.Store.view site.new.store) → IsClean (S.Store.view site.old.store) }
     ensures cause { IsClean (S.Store.view site.new.store) → IfErr result (IfUnknown (IsCausedIn S.Store.view S.Store.faults site.old site.new ⊥ (IsDamaged (S.Store.view site.old.store).trees))) }
-    ensures counts { S.Store.faults site.old.store ≤ S.Store.faults site.new.store }
-    ensures crash { (db : Trees) → S.Store.recovers site.new.store db → S.Store.recovers site.old.store db }
+    ensures quiet { IsQuiet S.Store site.old.store site.new.store }
 {
     let ids = ids_of(alloc, rows)?;
     all_known(alloc, site, ids.as_slice())
@@ -140,10 +133,8 @@ fn unknown(why: Unknown) -> Answer
 fn with_known<S: Store>(alloc: Global, site: &mut StoredSite<S>, rows: Vec<Row>) -> Answer
     requires live { site.old.is_shut ≡ false }
     ensures told { IsWithKnown S.Store.view rows site.old site.new result }
-    ensures clean { IsClean (S.Store.view site.new.store) → IsClean (S.Store.view site.old.store) }
     ensures cause { FailsBy S.Store.view S.Store.faults site.old site.new ⊥ (IsDamaged (S.Store.view site.old.store).trees) result }
-    ensures counts { S.Store.faults site.old.store ≤ S.Store.faults site.new.store }
-    ensures crash { (db : Trees) → S.Store.recovers site.new.store db → S.Store.recovers site.old.store db }
+    ensures quiet { IsQuiet S.Store site.old.store site.new.store }
 {
     match known_of(alloc, site, rows.as_slice()) {
         Ok(known) => Answer::Rows(rows, known),
@@ -158,8 +149,7 @@ fn rows_of<S: Store>(alloc: Global, site: &mut StoredSite<S>, user: &[u8]) -> An
     ensures told { TellsRows S.Store.view (Some user.now) site.old site.new result }
     ensures kept { Keeps S.Store.view site.old site.new result }
     ensures cause { FailsBy S.Store.view S.Store.faults site.old site.new ⊥ (AreTooMany (Some user.now) (S.Store.view site.old.store)) result }
-    ensures counts { S.Store.faults site.old.store ≤ S.Store.faults site.new.store }
-    ensures crash { (db : Trees) → S.Store.recovers site.new.store db → S.Store.recovers site.old.store db }
+    ensures quiet { IsQuiet S.Store site.old.store site.new.store }
 {
     match site.rows_of(user) {
         Ok(rows) => with_known(alloc, site, rows),
@@ -174,8 +164,7 @@ fn all_rows<S: Store>(alloc: Global, site: &mut StoredSite<S>) -> Answer
     ensures told { TellsRows S.Store.view None site.old site.new result }
     ensures kept { Keeps S.Store.view site.old site.new result }
     ensures cause { FailsBy S.Store.view S.Store.faults site.old site.new ⊥ (AreTooMany None (S.Store.view site.old.store)) result }
-    ensures counts { S.Store.faults site.old.store ≤ S.Store.faults site.new.store }
-    ensures crash { (db : Trees) → S.Store.recovers site.new.store db → S.Store.recovers site.old.store db }
+    ensures quiet { IsQuiet S.Store site.old.store site.new.store }
 {
     match site.rows() {
         Ok(rows) => with_known(alloc, site, rows),
@@ -190,8 +179,7 @@ fn rows<S: Store>(alloc: Global, site: &mut StoredSite<S>, user: Option<&[u8]>) 
     ensures told { TellsRows S.Store.view (option_map (λ u. u.now) user.entry) site.old site.new result }
     ensures kept { Keeps S.Store.view site.old site.new result }
     ensures cause { FailsBy S.Store.view S.Store.faults site.old site.new ⊥ (AreTooMany (option_map (λ u. u.now) user.entry) (S.Store.view site.old.store)) result }
-    ensures counts { S.Store.faults site.old.store ≤ S.Store.faults site.new.store }
-    ensures crash { (db : Trees) → S.Store.recovers site.new.store db → S.Store.recovers site.old.store db }
+    ensures quiet { IsQuiet S.Store site.old.store site.new.store }
 {
     match user {
         Some(user) => rows_of(alloc, site, user),
@@ -225,9 +213,8 @@ pub fn carry_out<S: Store>(
     ensures kept { Keeps S.Store.view site.old site.new result }
     // A failure has its cause in it.
     ensures cause { FailsIn S.Store.view S.Store.faults now act site.old site.new result }
-    ensures counts { S.Store.faults site.old.store ≤ S.Store.faults site.new.store }
     // Nothing of it is in the file before it is committed.
-    ensures crash { (db : Trees) → S.Store.recovers site.new.store db → S.Store.recovers site.old.store db }
+    ensures quiet { IsQuiet S.Store site.old.store site.new.store }
 {
     if site.is_shut() {
         return Answer::Failed(Failure::Shut);

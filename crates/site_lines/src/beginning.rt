@@ -1,8 +1,8 @@
 //! Beginning a ceremony.
 
-ghost use Rattle.std.specs.Prelude.{◌≡◌, ◌≤◌, IfErr, IfOk, OnOk, false, map};
-ghost use Rattle.sqlite_trees.specs.Tree.{Trees};
+ghost use Rattle.std.specs.Prelude.{◌≡◌, IfErr, IfOk, OnOk, false, map};
 ghost use Rattle.sqlite_trees.specs.View.{IsClean};
+ghost use Rattle.site_rows.specs.Calls.{IsQuiet};
 ghost use Rattle.site_stored.specs.Calls.{IsNotBegun, IsSame};
 ghost use Rattle.site_stored.specs.Causes.{IfBeginStore, IsDamaged};
 ghost use Rattle.site_state.specs.Sessions.{Opening};
@@ -47,10 +47,8 @@ fn named<S: Store>(
     ensures known { IfOk result (λ list. AreKnown S.Store.view site.old site.new (map (λ id. id.items) ids.now) list.items) }
     ensures same { OnOk result (IsSame S.Store.view site.old site.new) }
     ensures refused { IfErr result (λ why. (o : Opening) → IsNotBegunAfter S.Store.view site.old site.new o why) }
-    ensures clean { IsClean (S.Store.view site.new.store) → IsClean (S.Store.view site.old.store) }
     ensures cause { IsClean (S.Store.view site.new.store) → IfErr result (IfBeginStore (IsCausedIn S.Store.view S.Store.faults site.old site.new ⊥ (IsDamaged (S.Store.view site.old.store).trees))) }
-    ensures counts { S.Store.faults site.old.store ≤ S.Store.faults site.new.store }
-    ensures crash { (db : Trees) → S.Store.recovers site.new.store db → S.Store.recovers site.old.store db }
+    ensures quiet { IsQuiet S.Store site.old.store site.new.store }
 {
     let Ok(ids) = lent(alloc, ids) else {
         return Err(BeginFailure::Site(BeginError::Memory));
@@ -73,10 +71,8 @@ fn started_sign_in<S: Store>(
     ensures begun { IfOk result (λ s.
         Begins S.Store.view (opens_sign_in begin.now words) words now s site.old site.new) }
     ensures refused { IfErr result (IsNotBegun site.old site.new (opens_sign_in begin.now words)) }
-    ensures clean { IsClean (S.Store.view site.new.store) → IsClean (S.Store.view site.old.store) }
     ensures cause { IsClean (S.Store.view site.new.store) → IfErr result (IfBeginStore (IsCausedIn S.Store.view S.Store.faults site.old site.new (RefusesBegin (S.Store.view site.old.store) site.old) ⊥)) }
-    ensures counts { S.Store.faults site.old.store ≤ S.Store.faults site.new.store }
-    ensures crash { (db : Trees) → S.Store.recovers site.new.store db → S.Store.recovers site.old.store db }
+    ensures quiet { IsQuiet S.Store site.old.store site.new.store }
 {
     let Ok(allow) = lent(alloc, begin.allow.as_slice()) else {
         return Err(BeginFailure::Site(BeginError::Memory));
@@ -116,8 +112,7 @@ fn known_sign_in<S: Store>(
     ensures known { IfOk result (λ b. AreKnown S.Store.view site.old site.new (map (λ id. id.items) begin.now.allow.items) b.known.items) }
     ensures refused { IfErr result (IsNotBegunAfter S.Store.view site.old site.new (opens_sign_in begin.now words)) }
     ensures cause { IsClean (S.Store.view site.new.store) → IfErr result (IfBeginStore (IsCausedIn S.Store.view S.Store.faults site.old site.new (RefusesBegin (S.Store.view site.old.store) site.old) (IsDamaged (S.Store.view site.old.store).trees))) }
-    ensures counts { S.Store.faults site.old.store ≤ S.Store.faults site.new.store }
-    ensures crash { (db : Trees) → S.Store.recovers site.new.store db → S.Store.recovers site.old.store db }
+    ensures quiet { IsQuiet S.Store site.old.store site.new.store }
 {
     let known = match named(alloc, site, begin.allow.as_slice()) {
         Ok(known) => known,
@@ -143,8 +138,7 @@ pub(crate) fn begin_sign_in<S: Store>(
     ensures details { TellsAllowed S.Store.view begin site.old site.new result }
     ensures kept { Keeps S.Store.view site.old site.new result }
     ensures cause { FailsBy S.Store.view S.Store.faults site.old site.new (RefusesBegin (S.Store.view site.old.store) site.old) (IsDamaged (S.Store.view site.old.store).trees) result }
-    ensures counts { S.Store.faults site.old.store ≤ S.Store.faults site.new.store }
-    ensures crash { (db : Trees) → S.Store.recovers site.new.store db → S.Store.recovers site.old.store db }
+    ensures quiet { IsQuiet S.Store site.old.store site.new.store }
 {
     match known_sign_in(alloc, site, words, now, &begin) {
         Ok(named) => Answer::SignInBegun(named.begun, begin, named.known),
@@ -162,10 +156,8 @@ fn started_registration<S: Store>(
     ensures begun { IfOk result (λ s.
         Begins S.Store.view (opens_registration begin.now words) words now s site.old site.new) }
     ensures refused { IfErr result (IsNotBegun site.old site.new (opens_registration begin.now words)) }
-    ensures clean { IsClean (S.Store.view site.new.store) → IsClean (S.Store.view site.old.store) }
     ensures cause { IsClean (S.Store.view site.new.store) → IfErr result (IfBeginStore (IsCausedIn S.Store.view S.Store.faults site.old site.new (RefusesBegin (S.Store.view site.old.store) site.old) ⊥)) }
-    ensures counts { S.Store.faults site.old.store ≤ S.Store.faults site.new.store }
-    ensures crash { (db : Trees) → S.Store.recovers site.new.store db → S.Store.recovers site.old.store db }
+    ensures quiet { IsQuiet S.Store site.old.store site.new.store }
 {
     site.begin_registration(
         begin.user.as_slice(),
@@ -192,8 +184,7 @@ fn known_registration<S: Store>(
     ensures known { IfOk result (λ b. AreKnown S.Store.view site.old site.new (map (λ id. id.items) begin.now.exclude.items) b.known.items) }
     ensures refused { IfErr result (IsNotBegunAfter S.Store.view site.old site.new (opens_registration begin.now words)) }
     ensures cause { IsClean (S.Store.view site.new.store) → IfErr result (IfBeginStore (IsCausedIn S.Store.view S.Store.faults site.old site.new (RefusesBegin (S.Store.view site.old.store) site.old) (IsDamaged (S.Store.view site.old.store).trees))) }
-    ensures counts { S.Store.faults site.old.store ≤ S.Store.faults site.new.store }
-    ensures crash { (db : Trees) → S.Store.recovers site.new.store db → S.Store.recovers site.old.store db }
+    ensures quiet { IsQuiet S.Store site.old.store site.new.store }
 {
     let known = match named(alloc, site, begin.exclude.as_slice()) {
         Ok(known) => known,
@@ -219,8 +210,7 @@ pub(crate) fn begin_registration<S: Store>(
     ensures details { TellsExcluded S.Store.view begin site.old site.new result }
     ensures kept { Keeps S.Store.view site.old site.new result }
     ensures cause { FailsBy S.Store.view S.Store.faults site.old site.new (RefusesBegin (S.Store.view site.old.store) site.old) (IsDamaged (S.Store.view site.old.store).trees) result }
-    ensures counts { S.Store.faults site.old.store ≤ S.Store.faults site.new.store }
-    ensures crash { (db : Trees) → S.Store.recovers site.new.store db → S.Store.recovers site.old.store db }
+    ensures quiet { IsQuiet S.Store site.old.store site.new.store }
 {
     match known_registration(alloc, site, words, now, &begin) {
         Ok(named) => Answer::RegistrationBegun(named.begun, begin, named.known),

@@ -1,8 +1,7 @@
 //! Finishing a ceremony.
 
-ghost use Rattle.std.specs.Prelude.{◌≡◌, ◌⊎◌, ◌≤◌, false, pos};
-ghost use Rattle.sqlite_trees.specs.Tree.{Trees};
-ghost use Rattle.sqlite_trees.specs.View.{IsClean};
+ghost use Rattle.std.specs.Prelude.{◌≡◌, ◌⊎◌, false, pos};
+ghost use Rattle.site_rows.specs.Calls.{IsQuiet};
 ghost use Rattle.site_stored.specs.Causes.{AreUnknownEndings, IsDamaged, IsUnknownEnding, RefusesEnding, RefusesRegistered, RefusesSignedIn};
 ghost use Rattle.site_stored.specs.State.{ended_session_tree};
 ghost use Rattle.authdata.specs.Responses.{assertion_response_view};
@@ -61,10 +60,8 @@ fn refused_sign_in<S: Store>(
 ) -> Answer
     ensures told { IsRefusedSignIn S.Store.view step finish site.old site.new result }
     ensures kept { Keeps S.Store.view site.old site.new result }
-    ensures clean { IsClean (S.Store.view site.new.store) → IsClean (S.Store.view site.old.store) }
     ensures cause { FailsBy S.Store.view S.Store.faults site.old site.new ⊥ (IsDamaged (S.Store.view site.old.store).trees) result }
-    ensures counts { S.Store.faults site.old.store ≤ S.Store.faults site.new.store }
-    ensures crash { (db : Trees) → S.Store.recovers site.new.store db → S.Store.recovers site.old.store db }
+    ensures quiet { IsQuiet S.Store site.old.store site.new.store }
 {
     let response = finish.response;
     if step != SignInRefusal::BadSignature || !finish.verified.is_nothing() {
@@ -111,8 +108,7 @@ pub(crate) fn finish_sign_in<S: Store>(
     ensures details { UsesDetail S.Store.view now finish site.old site.new result }
     ensures kept { Keeps S.Store.view site.old site.new result }
     ensures cause { FailsBy S.Store.view S.Store.faults site.old site.new (RefusesSignedIn (S.Store.view site.old.store) site.old.rp.profile (assertion_response_view finish.response) (pos now) ⊎ RefusesEnding ended_session_tree (S.Store.view site.old.store)) (IsDamaged (S.Store.view site.old.store).trees ⊎ IsUnknownEnding ended_session_tree (S.Store.view site.old.store).trees) result }
-    ensures counts { S.Store.faults site.old.store ≤ S.Store.faults site.new.store }
-    ensures crash { (db : Trees) → S.Store.recovers site.new.store db → S.Store.recovers site.old.store db }
+    ensures quiet { IsQuiet S.Store site.old.store site.new.store }
 {
     let parts = assertion_parts(&finish.response);
     let verifier = finish.verified.verifier();
@@ -139,8 +135,7 @@ fn finish_with<S: Store>(
     ensures details { RegistersDetail S.Store.view (detail_view detail) site.old site.new result }
     ensures kept { Keeps S.Store.view site.old site.new result }
     ensures cause { FailsBy S.Store.view S.Store.faults site.old site.new (RefusesRegistered (S.Store.view site.old.store) site.old (named_response finish) (detail_view detail) ⊎ RefusesEnding ended_session_tree (S.Store.view site.old.store)) (IsDamaged (S.Store.view site.old.store).trees ⊎ AreUnknownEndings (S.Store.view site.old.store).trees) result }
-    ensures counts { S.Store.faults site.old.store ≤ S.Store.faults site.new.store }
-    ensures crash { (db : Trees) → S.Store.recovers site.new.store db → S.Store.recovers site.old.store db }
+    ensures quiet { IsQuiet S.Store site.old.store site.new.store }
 {
     let parts = registration_parts(&finish);
     let verifier = finish.verified.verifier();
@@ -173,8 +168,7 @@ pub(crate) fn finish_registration<S: Store>(
     ensures details { RegistersDetail S.Store.view (new_detail now finish) site.old site.new result }
     ensures kept { Keeps S.Store.view site.old site.new result }
     ensures cause { FailsBy S.Store.view S.Store.faults site.old site.new (RefusesFinish (S.Store.view site.old.store) site.old now finish) (IsDamaged (S.Store.view site.old.store).trees ⊎ AreUnknownEndings (S.Store.view site.old.store).trees) result }
-    ensures counts { S.Store.faults site.old.store ≤ S.Store.faults site.new.store }
-    ensures crash { (db : Trees) → S.Store.recovers site.new.store db → S.Store.recovers site.old.store db }
+    ensures quiet { IsQuiet S.Store site.old.store site.new.store }
 {
     match detail_of(alloc, now, &finish) {
         Ok(detail) => finish_with(alloc, site, now, finish, detail),

@@ -1,9 +1,9 @@
 //! What is known of credentials beside what verdicts ask for.
 
-ghost use Rattle.std.specs.Prelude.{◌≡◌, ◌≤◌, ◌++◌, ◌∷◌, [], ℕ, IfErr, IfOk, List, None, OnOk, Option, Some, false, map, option_map, string_bytes};
+ghost use Rattle.std.specs.Prelude.{◌≡◌, ◌++◌, ◌∷◌, [], IfErr, IfOk, None, OnOk, Option, Some, false, map, option_map, string_bytes};
 ghost use Rattle.std.specs.List.{AllByRecursion};
-ghost use Rattle.sqlite_trees.specs.Tree.{Trees};
 ghost use Rattle.sqlite_trees.specs.View.{IsClean};
+ghost use Rattle.site_rows.specs.Calls.{IsQuiet};
 ghost use Rattle.site_state.specs.Details.{detail_view};
 ghost use Rattle.site_stored.specs.Calls.{IsSame};
 ghost use Rattle.site_stored.specs.Causes.{IsDamaged};
@@ -68,10 +68,8 @@ fn known<S: Store>(alloc: Global, site: &mut StoredSite<S>, id: &[u8]) -> Result
     ensures known { IfOk result (λ k. OfDetails S.Store.view site.old site.new (λ placed details. IsKnown placed details k)) }
     ensures same { OnOk result (IsSame S.Store.view site.old site.new) }
     ensures unknown { IfErr result (IsUnknown S.Store.view site.old site.new) }
-    ensures clean { IsClean (S.Store.view site.new.store) → IsClean (S.Store.view site.old.store) }
     ensures cause { IsClean (S.Store.view site.new.store) → IfErr result (IfUnknown (IsCausedIn S.Store.view S.Store.faults site.old site.new ⊥ (IsDamaged (S.Store.view site.old.store).trees))) }
-    ensures counts { S.Store.faults site.old.store ≤ S.Store.faults site.new.store }
-    ensures crash { (db : Trees) → S.Store.recovers site.new.store db → S.Store.recovers site.old.store db }
+    ensures quiet { IsQuiet S.Store site.old.store site.new.store }
 {
     let copy = Vec::from_slice(alloc, id)?;
     let detail = site.detail(id)?;
@@ -103,10 +101,8 @@ pub(crate) fn all_known<S: Store>(
     ensures known { IfOk result (λ list. OfDetails S.Store.view site.old site.new (λ placed details. AllByRecursion (IsKnown placed details) list.items)) }
     ensures same { OnOk result (IsSame S.Store.view site.old site.new) }
     ensures unknown { IfErr result (IsUnknown S.Store.view site.old site.new) }
-    ensures clean { IsClean (S.Store.view site.new.store) → IsClean (S.Store.view site.old.store) }
     ensures cause { IsClean (S.Store.view site.new.store) → IfErr result (IfUnknown (IsCausedIn S.Store.view S.Store.faults site.old site.new ⊥ (IsDamaged (S.Store.view site.old.store).trees))) }
-    ensures counts { S.Store.faults site.old.store ≤ S.Store.faults site.new.store }
-    ensures crash { (db : Trees) → S.Store.recovers site.new.store db → S.Store.recovers site.old.store db }
+    ensures quiet { IsQuiet S.Store site.old.store site.new.store }
 {
     let mut list = Vec::with_capacity(alloc, ids.len())?;
     for id in ids {

@@ -2,6 +2,7 @@
 
 ghost use Rattle.std.specs.Prelude.{◌≡◌, ◌≤◌, ◌⊎◌, IfErr, IfOk, OnErr, OnOk, Some, map, true};
 ghost use Rattle.sqlite_trees.specs.Tree.{Trees};
+ghost use Rattle.site_rows.specs.Calls.{IsQuiet};
 ghost use Rattle.site_stored.specs.State.{committed_as};
 ghost use Rattle.site_lines.specs.declared.answer.Answer.TheVariants as answers;
 ghost use Rattle.site_lines.specs.Answers.{Keeps, Tells};
@@ -73,8 +74,7 @@ fn carried_out<S: Store>(
     ensures kept { Keeps S.Store.view site.old site.new result.answer }
     ensures number { result.id ≡ Some line.id }
     ensures cause { FailsIn S.Store.view S.Store.faults now line.act site.old site.new result.answer }
-    ensures counts { S.Store.faults site.old.store ≤ S.Store.faults site.new.store }
-    ensures crash { (db : Trees) → S.Store.recovers site.new.store db → S.Store.recovers site.old.store db }
+    ensures quiet { IsQuiet S.Store site.old.store site.new.store }
 {
     let named = named_session(&line.act);
     let answer = carry_out(alloc, site, words, now, line.act);
@@ -106,8 +106,7 @@ fn answer_one<S: Store>(
 ) -> Answered
     ensures told { IsAnswered S.Store.view S.Store.faults now arrived.now site.old site.new result }
     ensures kept { Keeps S.Store.view site.old site.new result.answer }
-    ensures counts { S.Store.faults site.old.store ≤ S.Store.faults site.new.store }
-    ensures crash { (db : Trees) → S.Store.recovers site.new.store db → S.Store.recovers site.old.store db }
+    ensures quiet { IsQuiet S.Store site.old.store site.new.store }
 {
     match read_line(alloc, arrived.line.as_slice()) {
         Ok(line) => carried_out(alloc, site, arrived.words, now, line),
@@ -123,8 +122,7 @@ fn carry_all<S: Store>(
     arrived: &[Arrived],
 ) -> Result<Vec<Answered>, AllocError>
     ensures ran { IfOk result (λ answers. Runs S.Store.view S.Store.faults now site.old arrived.now answers.items site.new) }
-    ensures counts { S.Store.faults site.old.store ≤ S.Store.faults site.new.store }
-    ensures crash { (db : Trees) → S.Store.recovers site.new.store db → S.Store.recovers site.old.store db }
+    ensures quiet { IsQuiet S.Store site.old.store site.new.store }
 {
     let mut answers = Vec::with_capacity(alloc, arrived.len())?;
     for one in arrived {

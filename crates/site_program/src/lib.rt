@@ -8,6 +8,7 @@ mod input;
 mod options;
 mod party;
 mod serving;
+mod telling;
 
 use fault::Fault;
 use file::site_of;

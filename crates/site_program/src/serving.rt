@@ -3,11 +3,10 @@
 use crate::arriving::take_lines;
 use crate::fault::Fault;
 use crate::options::{Log, Options};
+use crate::telling::tell;
 use json_lines::{READ_AT_ONCE, VERSION};
 use site_files::{FileSite, Start, backup};
-use site_lines::{
-    Answer, Answered, Arrived, Logged, Tally, Teller, answer_lines, log_line, write_answer,
-};
+use site_lines::{Answer, Answered, Arrived, Logged, Tally, Teller, answer_lines, log_line};
 use std::fs::File;
 use std::io::{self, BufReader, Read, Write};
 use std::time::{SystemTime, UNIX_EPOCH};
@@ -63,17 +62,6 @@ fn log_all(rt: &HostRuntime, asked: Option<Log>, now: u64, answers: &[Answered])
     lost
 }
 
-/// Tells the answers on standard output, at once.
-fn tell(rt: &HostRuntime, teller: &Teller<'_>, answers: &[Answered]) -> io::Result<()> {
-    let mut text = String::new(rt.alloc());
-    for answered in answers {
-        write_answer(rt.alloc(), teller, answered, &mut text)?;
-    }
-    let mut out = rt.stdout();
-    out.write_all(text.as_bytes())?;
-    out.flush()
-}
-
 /// Answers lines that came together. A line of the log that can't be written is counted, and ends nothing.
 fn answer<S: Start>(
     rt: &HostRuntime,
@@ -94,7 +82,7 @@ fn answer<S: Start>(
         tally: &*tally,
         known: site.known(),
     };
-    tell(rt, &teller, answers.as_slice())?;
+    tell(rt.alloc(), &mut rt.stdout(), &teller, answers.as_slice())?;
     tally.note_lost(log_all(rt, options.log, now, answers.as_slice()));
     Ok(())
 }

@@ -1,6 +1,6 @@
 -- What is owed of `push_creation`.
 use Rattle.std.proofs.Common.{◌∙◌, ap, option_map}
-use Rattle.ccbor.specs.Item.{map}
+use Rattle.ccbor.specs.Item.{map, uint}
 use Rattle.ctap_encoding.specs.Table.{list_of, record_of}
 use Rattle.ctap_encoding.specs.Content.{item_of}
 use Rattle.ctap_encoding.specs.Building.{pair_list_view}
@@ -13,7 +13,7 @@ use Rattle.ctap_open_requests.proofs.writing.push_creation.Goals as goal
 pub returns : goal.returns
 returns c =
     ap map (all_pairs _
-    ∙ pushed_end 7 (options_view c.args.request.options) (option_map auth_view c.args.request.auth) (pair_list_view c.push_if_there-2.new.pairs.items) _ _ c.in_ok-push_end.ensures
+    ∙ pushed_end (uint 7) (uint 8) (uint 9) (options_view c.args.request.options) (option_map auth_view c.args.request.auth) (pair_list_view c.push_if_there-2.new.pairs.items) _ _ c.in_ok-push_end.ensures
     ∙ pushed_if_there (λ x. x) _ _ _ _ _ _ c.in_ok-push_if_there-2.ensures (same_item _)
     ∙ pushed_if_there (item_of (list_of (record_of credential_members))) _ _ _ _ _ _ c.in_ok-push_if_there.ensures c.in_ok-exclude.ensures
     ∙ pushed _ _ _ _ _ _ c.in_ok-push_member-4.ensures c.in_ok-algorithms.ensures

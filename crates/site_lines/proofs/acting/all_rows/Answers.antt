@@ -10,7 +10,7 @@ returns-in-Ok-clause-details g c =
 
 pub returns-in-Ok-clause-cause : goal.returns-in-Ok-clause-cause
 returns-in-Ok-clause-cause g c =
-    fails_after g.S.Store.view g.S.Store.faults c.args.site.now c.rows.new.self c.with_known.new.site _ _ _ _ c.with_known.result c.with_known.ensures.clean
+    fails_after g.S.Store.view g.S.Store.faults c.args.site.now c.rows.new.self c.with_known.new.site _ _ _ _ c.with_known.result c.with_known.ensures.quiet.clean
     c.in-Ok.ensures.reads.quiet.counts (λ clean no. absurd no)
     (λ clean damage placed holds. absurd (damaged_on g.S.Store.view c.args.site.now c.rows.new.self c.in-Ok.ensures.reads.same clean damage placed holds))
     c.with_known.ensures.cause

@@ -10,7 +10,7 @@ returns-in-Err-clause-refused g c = c.in-Err.ensures.refused (opens_sign_in c.ar
 pub returns-in-Ok-started_sign_in-clause-begun : goal.returns-in-Ok-started_sign_in-clause-begun
 returns-in-Ok-started_sign_in-clause-begun g c =
     begins_after g.S.Store.view (opens_sign_in c.args.begin.now c.args.words) c.args.words c.args.now c.in-Ok-started_sign_in.begun c.args.site.now c.named.new.site c.started_sign_in.new.site c.in-Ok.ensures.same
-    c.in-Ok-started_sign_in.ensures.clean c.in-Ok-started_sign_in.ensures.begun
+    c.in-Ok-started_sign_in.ensures.quiet.clean c.in-Ok-started_sign_in.ensures.begun
 
 pub returns-in-Err-clause-cause : goal.returns-in-Err-clause-cause
 returns-in-Err-clause-cause g c = look_fails g.S.Store.view g.S.Store.faults c.args.site.now c.named.new.site _ _ c.in-Err.why c.in-Err.ensures.cause
@@ -18,4 +18,4 @@ returns-in-Err-clause-cause g c = look_fails g.S.Store.view g.S.Store.faults c.a
 pub returns-in-Err-started_sign_in-clause-cause : goal.returns-in-Err-started_sign_in-clause-cause
 returns-in-Err-started_sign_in-clause-cause g c =
     begin_since g.S.Store.view g.S.Store.faults c.args.site.now c.named.new.site c.started_sign_in.new.site c.in-Err-started_sign_in.why c.in-Ok.ensures.same
-    c.in-Err-started_sign_in.ensures.clean c.in-Ok.ensures.counts c.in-Err-started_sign_in.ensures.cause
+    c.in-Err-started_sign_in.ensures.quiet.clean c.in-Ok.ensures.quiet.counts c.in-Err-started_sign_in.ensures.cause

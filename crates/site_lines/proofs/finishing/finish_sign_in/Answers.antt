@@ -35,7 +35,7 @@ pub returns-in-Err-Site-Refused-clause-cause : goal.returns-in-Err-Site-Refused-
 returns-in-Err-Site-Refused-clause-cause g c =
     let refused = rw c.in-Err-Site-Refused.field-0-is at c.in-Err-Site-Refused.ensures.refused in
     fails_after g.S.Store.view g.S.Store.faults c.args.site.now c.finish_parts.new.self c.refused_sign_in.new.site _ _ _ _ c.refused_sign_in.result
-    c.refused_sign_in.ensures.clean c.in-Err-Site-Refused.ensures.quiet.counts (λ clean none. absurd none)
+    c.refused_sign_in.ensures.quiet.clean c.in-Err-Site-Refused.ensures.quiet.counts (λ clean none. absurd none)
     (λ clean damage. inl (damaged_on g.S.Store.view c.args.site.now c.finish_parts.new.self refused.0 clean damage)) c.refused_sign_in.ensures.cause
 
 pub returns-in-Err-Store-clause-cause : goal.returns-in-Err-Store-clause-cause

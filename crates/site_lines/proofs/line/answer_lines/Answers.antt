@@ -15,12 +15,12 @@ pub returns-in-Ok-clause-crash : goal.returns-in-Ok-clause-crash
 returns-in-Ok-clause-crash g c db r =
     elim (c.commit.ensures.crash db r) [
       | inl is ↦ inr (c.in_ok-answers.answers.items, c.carry_all.new.site, c.in_ok-answers.ensures.ran, is)
-      | inr before ↦ inl (c.carry_all.ensures.crash db before)
+      | inr before ↦ inl (c.carry_all.ensures.quiet.crash db before)
     ]
 
 pub returns-in-Err-clause-crash : goal.returns-in-Err-clause-crash
 returns-in-Err-clause-crash g c db r =
     elim (c.commit.ensures.crash db r) [
       | inl is ↦ inr (c.in_ok-answers.answers.items, c.carry_all.new.site, c.in_ok-answers.ensures.ran, is)
-      | inr before ↦ inl (c.carry_all.ensures.crash db before)
+      | inr before ↦ inl (c.carry_all.ensures.quiet.crash db before)
     ]
