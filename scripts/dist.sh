@@ -122,3 +122,11 @@ inspector_into() {
     file_lines inspector.html "$1/inspector.html"
     echo "inspector.html tools Node $(node --version)"
 }
+
+# Writes the pages as HTML into the folder pages/ of a folder, and prints their lines of dist/MANIFEST: pages_into FOLDER.
+pages_into() {
+    local file
+    "$top/scripts/pages" --html "$1/pages" || return
+    for file in "$1"/pages/*; do file_lines "pages/${file##*/}" "$file"; done
+    echo "pages/index.html tools $(cmark-gfm --version | head -n 1 | sed 's/ - .*//')"
+}
