@@ -12,14 +12,14 @@ const AAGUID: [u8; 16] = *b"garvoeng softkey";
 
 /// What `--help` prints.
 const HELP: &str =
-    "A security key over lines: packets, decisions and signatures in, packets and what is to be signed out
+    "A security key over lines: packets, decisions and signatures in; packets and messages to sign out
 
 Usage: softkey [WORD ..]
 
 Words:
-  no-uv             It does not verify its user
-  self-attestation  It attests by the credential's own key
-  pin               It takes PINs
+  no-uv             Do not verify the user
+  self-attestation  Attest each new credential with its own key
+  pin               Take PINs, and verify the user by them alone
 
 Options:
   -h, --help     Print help

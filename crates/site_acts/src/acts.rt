@@ -65,62 +65,62 @@ struct Form {
 static FORMS: [Form; 12] = [
     Form {
         kind: ActKind::BeginRegistration,
-        meaning: "a registration begins",
+        meaning: "begin a registration",
         answer: "session, number, options",
     },
     Form {
         kind: ActKind::FinishRegistration,
-        meaning: "its response is judged",
+        meaning: "judge its response",
         answer: "verify, accepted or refused",
     },
     Form {
         kind: ActKind::BeginSignIn,
-        meaning: "a sign-in begins",
+        meaning: "begin a sign-in",
         answer: "session, number, options",
     },
     Form {
         kind: ActKind::FinishSignIn,
-        meaning: "its response is judged",
+        meaning: "judge its response",
         answer: "verify, accepted or refused",
     },
     Form {
         kind: ActKind::Retire,
-        meaning: "a credential signs in no more",
-        answer: "retired: whether it did until now",
+        meaning: "stop a credential from signing in",
+        answer: "retired: whether it could until now",
     },
     Form {
         kind: ActKind::Delete,
-        meaning: "a credential is forgotten",
+        meaning: "delete a credential",
         answer: "deleted: whether it was there",
     },
     Form {
         kind: ActKind::RetireAll,
-        meaning: "a user's credentials sign in no more",
-        answer: "retired_all: how many did until now",
+        meaning: "stop a user's credentials from signing in",
+        answer: "retired_all: how many could until now",
     },
     Form {
         kind: ActKind::Erase,
-        meaning: "a user's credentials are forgotten",
+        meaning: "delete a user's credentials",
         answer: "erased: how many there were",
     },
     Form {
         kind: ActKind::Abandon,
-        meaning: "a session ends",
+        meaning: "end a session",
         answer: "abandoned: whether it was open",
     },
     Form {
         kind: ActKind::Rows,
-        meaning: "the credentials of a user, or all",
+        meaning: "list the credentials of a user, or all",
         answer: "rows",
     },
     Form {
         kind: ActKind::Status,
-        meaning: "how the site is",
+        meaning: "report the state of the site",
         answer: "status",
     },
     Form {
         kind: ActKind::Backup,
-        meaning: "the file is copied",
+        meaning: "copy the file",
         answer: "backup: whether the copy is whole on the disk",
     },
 ];
@@ -143,7 +143,7 @@ static MEMBERS: [Member; 26] = [
         act: ActKind::BeginRegistration,
         name: "display_name",
         is_needed: false,
-        meaning: "the user's name; as user_name",
+        meaning: "the user's name [default: user_name]",
     },
     Member {
         act: ActKind::BeginRegistration,
@@ -155,19 +155,19 @@ static MEMBERS: [Member; 26] = [
         act: ActKind::BeginRegistration,
         name: "user_verification",
         is_needed: false,
-        meaning: "true: the user is to be verified",
+        meaning: "true: require user verification",
     },
     Member {
         act: ActKind::BeginRegistration,
         name: "resident",
         is_needed: false,
-        meaning: "false: it need not be found without an id",
+        meaning: "false: the passkey need not be discoverable",
     },
     Member {
         act: ActKind::BeginRegistration,
         name: "algorithms",
         is_needed: false,
-        meaning: "some of -7, -8, -257; all",
+        meaning: "some of -7, -8, -257 [default: all]",
     },
     Member {
         act: ActKind::BeginRegistration,
@@ -179,13 +179,13 @@ static MEMBERS: [Member; 26] = [
         act: ActKind::BeginRegistration,
         name: "attestation",
         is_needed: false,
-        meaning: "true: an attestation is asked for",
+        meaning: "true: ask for an attestation",
     },
     Member {
         act: ActKind::FinishRegistration,
         name: "session",
         is_needed: true,
-        meaning: "the session, as its begin was answered",
+        meaning: "the session that the begin answered",
     },
     Member {
         act: ActKind::FinishRegistration,
@@ -197,13 +197,13 @@ static MEMBERS: [Member; 26] = [
         act: ActKind::FinishRegistration,
         name: "transports",
         is_needed: false,
-        meaning: "the texts of getTransports(); those of the response",
+        meaning: "the texts of getTransports() [default: those of the response]",
     },
     Member {
         act: ActKind::FinishRegistration,
         name: "verified",
         is_needed: false,
-        meaning: "what verify had, where the signature is valid; false where not",
+        meaning: "what verify held if the signature is valid; false if it is not",
     },
     Member {
         act: ActKind::BeginSignIn,
@@ -215,19 +215,19 @@ static MEMBERS: [Member; 26] = [
         act: ActKind::BeginSignIn,
         name: "allow",
         is_needed: false,
-        meaning: "the ids that may answer; any",
+        meaning: "the ids that may answer [default: any]",
     },
     Member {
         act: ActKind::BeginSignIn,
         name: "user_verification",
         is_needed: false,
-        meaning: "true: the user is to be verified",
+        meaning: "true: require user verification",
     },
     Member {
         act: ActKind::FinishSignIn,
         name: "session",
         is_needed: true,
-        meaning: "the session, as its begin was answered",
+        meaning: "the session that the begin answered",
     },
     Member {
         act: ActKind::FinishSignIn,
@@ -239,7 +239,7 @@ static MEMBERS: [Member; 26] = [
         act: ActKind::FinishSignIn,
         name: "verified",
         is_needed: false,
-        meaning: "what verify had, where the signature is valid; false where not",
+        meaning: "what verify held if the signature is valid; false if it is not",
     },
     Member {
         act: ActKind::Retire,
@@ -257,7 +257,7 @@ static MEMBERS: [Member; 26] = [
         act: ActKind::Abandon,
         name: "session",
         is_needed: true,
-        meaning: "the session, as its begin was answered",
+        meaning: "the session that the begin answered",
     },
     Member {
         act: ActKind::RetireAll,
@@ -281,7 +281,7 @@ static MEMBERS: [Member; 26] = [
         act: ActKind::Backup,
         name: "path",
         is_needed: true,
-        meaning: "where nothing stands yet",
+        meaning: "a path where no file is",
     },
 ];
 
@@ -340,11 +340,7 @@ fn act_help(help: &mut String, form: &Form) -> Result<(), AllocError> {
     for member in &MEMBERS {
         if member.act == form.kind {
             let (name, meaning) = (member.name, member.meaning);
-            let left_out = if member.is_needed {
-                ""
-            } else {
-                " (may be left out)"
-            };
+            let left_out = if member.is_needed { "" } else { " (optional)" };
             writeln!(help, "    {name:<18} {meaning}{left_out}")?;
         }
     }
@@ -355,8 +351,8 @@ fn act_help(help: &mut String, form: &Form) -> Result<(), AllocError> {
 pub fn acts_help(alloc: Global) -> Result<String, AllocError> {
     let mut help = String::from_str(
         alloc,
-        "A line in is {\"id\": NUMBER, \"act\": NAME, ..}, and its answer has the same id. Bytes are in base64url without
-padding. Any answer may be an error, which changes nothing, or failed: the site is shut.
+        "A line in is {\"id\": NUMBER, \"act\": NAME, ..}; its answer has the same id. Bytes are base64url without padding.
+Any answer may be an error, which changes nothing, or failed, after which the site is shut.
 
 Acts:
 ",

@@ -16,11 +16,11 @@ static PROFILES: [&str; 3] = ["level3", "open", "strict"];
 static ATTESTATIONS: [&str; 3] = ["any", "none", "self"];
 
 /// What is told where a value is no number that it may be.
-const BAD_MAX_CREDENTIALS: &str = "the value of --max-credentials is no number from 1 to 1000000\n";
+const BAD_MAX_CREDENTIALS: &str = "--max-credentials takes a number from 1 to 1000000\n";
 
-const BAD_EXPIRE: &str = "the value of --expire is no number of seconds from 1 to 1000000\n";
+const BAD_EXPIRE: &str = "--expire takes a number of seconds from 1 to 1000000\n";
 
-const BAD_AT_LEAST: &str = "the value of --at-least is no number\n";
+const BAD_AT_LEAST: &str = "--at-least takes a number\n";
 
 /// What is told where a value is missing.
 const MISSING: &str = "FILE, --rp-id or --origin is missing\n";
@@ -99,13 +99,13 @@ fn party_options<'a>(alloc: Global, help: &'a str) -> Result<Command<'a>, AllocE
                 .required(true)
                 .help("The site's SQLite file"),
         )?
-        .arg(option(alloc, "rp-id", "ID", "The rp id").required(true))?
+        .arg(option(alloc, "rp-id", "ID", "The relying party id: the site's domain").required(true))?
         .arg(
             option(
                 alloc,
                 "origin",
                 "ORIGIN",
-                "An origin of its pages; may come again",
+                "An origin of the site's pages (repeatable)",
             )
             .required(true)
             .action(ArgAction::Append),
@@ -119,27 +119,27 @@ fn policy_options<'a>(alloc: Global, help: &'a str) -> Result<Command<'a>, Alloc
             alloc,
             "top-origin",
             "ORIGIN",
-            "An origin of a page that may have its pages in a frame; may come again",
+            "An origin whose pages may show the site's in a frame (repeatable)",
         )
         .action(ArgAction::Append))?
         .arg(option(
             alloc,
             "rp-name",
             "NAME",
-            "The name that the page shows; as the rp id",
+            "Name shown to the user [default: the rp id]",
         ))?
         .arg(option(
             alloc,
             "profile",
             "PROFILE",
-            "Which responses it takes; level3",
+            "Which responses to accept [default: level3]",
         )
         .value_parser(PROFILES.as_slice()))?
         .arg(option(
             alloc,
             "attestation",
             "WHICH",
-            "Which attestations it accepts; any",
+            "Which attestations to accept [default: any]",
         )
         .value_parser(ATTESTATIONS.as_slice()))
 }
@@ -151,13 +151,13 @@ fn bound_options<'a>(alloc: Global, help: &'a str) -> Result<Command<'a>, AllocE
             alloc,
             "max-credentials",
             "N",
-            "The most credentials, up to 1000000; 1000000",
+            "Most credentials to keep, up to 1000000 [default: 1000000]",
         ))?
         .arg(option(
             alloc,
             "expire",
             "SECONDS",
-            "After how long a session ends by itself, up to 1000000; 300",
+            "Seconds until a session expires, up to 1000000 [default: 300]",
         ))
 }
 
@@ -167,7 +167,7 @@ fn log_option<'a>(alloc: Global) -> Arg<'a> {
         alloc,
         "log",
         "WHICH",
-        "Tell refusals on standard error, or all: acceptances and errors too; refusals",
+        "Log refusals to standard error, or all outcomes [default: refusals]",
     )
     .num_args(0..=1)
     .require_equals(true)
@@ -181,26 +181,26 @@ fn file_options<'a>(alloc: Global, help: &'a str) -> Result<Command<'a>, AllocEr
         .arg(switch(
             alloc,
             "new",
-            "The file is to be made, and must not be there",
+            "Make the file; fail if it exists",
         ))?
-        .arg(switch(alloc, "existing", "The file must be there").conflicts_with("new")?)?
+        .arg(switch(alloc, "existing", "Open the file; fail if there is none").conflicts_with("new")?)?
         .arg(option(
             alloc,
             "at-least",
             "N",
-            "What was known: a copy of the file that lacks what was told then is refused, and none is made",
+            "Refuse a copy of the file that is older than the answer whose `known` was N",
         )
         .conflicts_with("new")?)?
         .arg(switch(
             alloc,
             "no-sums",
-            "A new file has no sums of its pages, so that sqlite3 may write it",
+            "Make a new file without page checksums, so that sqlite3 can write it",
         )
         .conflicts_with("existing")?)?
         .arg(switch(
             alloc,
             "wary",
-            "Each commit flushes twice: a write that is cut off may leave any bytes",
+            "Flush each commit twice, for disks where a write that is cut off may leave any bytes",
         ))
 }
 
