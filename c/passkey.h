@@ -1,27 +1,27 @@
 /* passkey.h: the steps by which a relying party verifies a passkey's sign-in and registration (WebAuthn Level 2 and
  * Level 3, sections 7.2 and 7.1), as proved code. C11 and C++.
  *
- * Each call judges one response by what it is handed, and keeps nothing: sessions, credentials and the mathematics of
- * signatures are the host's. No call changes anything but what it tells, which it writes with the answer 0 alone.
+ * Each call judges one response by its parameters, and keeps nothing: sessions, credentials and the mathematics of
+ * signatures are the host's. A call changes nothing but its outputs, which it writes only with the answer 0.
  *
  * A sign-in takes two calls of passkey_assertion:
  *   1. without a verified signature: PASSKEY_BAD_SIGNATURE then means that each step before the signature's is passed;
  *   2. with the key, the message and the signature that the host verified by its own library, for a last answer.
- * The host hands in the three byte strings, and never a flag: a signature of anything else is refused.
- * passkey_signature_asked tells the three that it is to verify. A registration by self attestation goes the same way, by
+ * The host passes the three byte strings, and never a flag: a signature of anything else is refused.
+ * passkey_signature_asked gives the three that it has to verify. A registration by self attestation goes the same way, by
  * PASSKEY_REGISTRATION_BAD_STATEMENT; one without attestation takes one call.
  *
  * The calls may be made from several threads at once, and not from a signal handler. They take memory from malloc.
  * A pointer may be null only where its size or count is 0. Texts are not terminated.
  *
- * A flag that is handed in is a number: 0 is false, and each other number is true, also one by which a look-up tells that it
- * failed: compare what it answers first. A bool that is told is 0 or 1.
- * What is told, `out` and the rooms, need not be initialised: nothing of it is read.
- * What is told may not overlap what is lent or what else is told. This is not tested: where the rooms of
- * passkey_signature_asked overlap each other or the response, it answers 0 and tells a wrong message or signature.
+ * A flag that the host passes is a number: 0 is false, and any other number is true, also one that means that a look-up
+ * failed: compare its answer first. A bool that a call writes is 0 or 1.
+ * Outputs, `out` and the rooms, need not be initialised: nothing of them is read.
+ * An output may not overlap an input or another output. This is not tested: if the rooms of passkey_signature_asked overlap
+ * each other or the response, it answers 0 and writes a wrong message or signature.
  *
- * Sizes: credential ids and user handles that are handed in are compared, and have no limit here. An id that is told has 1
- * to 64 bytes in the strict profile, and 1 to 1,023 in the others.
+ * Sizes: credential ids and user handles that the host passes are compared, and have no limit here. An id that a call writes
+ * has 1 to 64 bytes in the strict profile, and 1 to 1,023 in the others.
  * Keys: no test is made that a point lies on its curve, or that a modulus is a product of two primes. The library that
  * verifies signatures has to refuse such a key.
  *
@@ -57,8 +57,8 @@ extern "C" {
 #define passkey_key_to_cose passkey_key_to_cose_5
 #define passkey_refusal_text passkey_refusal_text_5
 
-/* A call takes at most so many bytes of its thread's stack, whatever it is handed: passkey_assertion and
- * passkey_registration, and each other one. */
+/* The most bytes of its thread's stack that a call takes, whatever its parameters: passkey_assertion and
+ * passkey_registration, and each other call. */
 #define PASSKEY_STACK_BYTES 32768
 #define PASSKEY_OTHER_STACK_BYTES 4096
 
@@ -90,7 +90,7 @@ enum {
 };
 
 /* Answers. 1 to 19 are the steps: 1 to 16 in their order, and 17 and 18, of Level 3, right after the origin (8 of a
- * sign-in, 5 of a registration). 19, of a registration alone, stands in the place of 15 if the host hands in a free id and
+ * sign-in, 5 of a registration). 19, of a registration alone, stands in the place of 15 if the host passes a free id and
  * the response attests another. */
 enum {
     PASSKEY_ACCEPTED = 0,
@@ -169,7 +169,7 @@ typedef struct passkey_key {
                           big-endian: 1 to 4 bytes, the first not 0, the last odd, at least 3 */
 } passkey_key;
 
-/* A public key that is told: as passkey_key, the first x_size bytes of x and the first
+/* A public key that a call writes: as passkey_key, the first x_size bytes of x and the first
  * y_size bytes of y. */
 typedef struct passkey_key_out {
     int32_t algorithm;

@@ -121,7 +121,7 @@ func (l *lent) party(p *party) (of C.passkey_party) {
 // What a response's signature is verified with.
 type verify func(key Key, message, signature []byte) bool
 
-// Has a signature verified, where there is one to verify: what was verified, to be handed in.
+// Verifies the signature, if there is one to verify: what was verified, for the next call.
 func (l *lent) verified(asked *C.passkey_signature_call, messageRoom, signatureRoom int, isValid verify) (C.passkey_verified, bool, uint32) {
 	var told C.passkey_signature_out
 	message, signature := l.take(messageRoom), l.take(signatureRoom)
@@ -153,7 +153,7 @@ type assertionTold struct {
 	extensions                         []byte
 }
 
-// Judges a sign-in: the answer, and what is told where it is 0.
+// Judges a sign-in: the answer, and the outputs if it is 0.
 func judgeAssertion(p *party, session *SignInSession, credential *Credential, response *assertionParts, isValid verify) (uint32, assertionTold, error) {
 	size := p.size() + 2*len(response.authData) + 2*len(response.signature) + len(response.id) + len(response.user) + len(response.clientData) + keyRoom + 64
 	if session != nil {

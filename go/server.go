@@ -10,7 +10,7 @@ import (
 	"unicode/utf8"
 )
 
-// Config is what a relying party may be told beside its rp id and its origins; the zero value is what most sites want.
+// Config has a relying party's settings beside its rp id and its origins; the zero value is what most sites want.
 type Config struct {
 	RPName     string   // shown by authenticators; the rp id, where it is empty
 	Profile    *Profile // Level3, where it is nil
@@ -207,7 +207,7 @@ func (s *Server) AuthenticateComplete(session *SignInSession, response []byte, c
 func (s *Server) signedIn(session *SignInSession, stored *Credential, parts *assertionParts) (*SignedIn, error) {
 	var before *Credential
 	if stored != nil {
-		// What is told is of the row that was judged, whatever becomes of the host's own meanwhile.
+		// The answer is about the row that was judged, even if the host's own changes meanwhile.
 		copied := *stored
 		before = &copied
 	}

@@ -19,8 +19,8 @@ export function register(options: CreationOptions, how?: { signal?: AbortSignal;
 export function signIn(options: RequestOptions, how?: { signal?: AbortSignal; mediation?: Mediation }): Promise<AuthenticationResponseJSON>;
 /** Whether this browser has passkeys in autofill. */
 export function canAutofill(): Promise<boolean>;
-/** Signs in by autofill, however long the visitor waits: `begin()` gives the site's options, and is called anew after so many
- *  `milliseconds`, 240,000, before the site's session has ended. Another call ends it. */
+/** Signs in by autofill, however long the visitor waits: `begin()` gives the site's options, and is called again every
+ *  `milliseconds`, 240,000, before the site's session expires. Another call ends it. */
 export function autofill(begin: () => Promise<RequestOptions>, how?: { signal?: AbortSignal; milliseconds?: number }): Promise<AuthenticationResponseJSON>;
 
 /** Tells authenticators what `signalUnknownCredential`, `signalAllAccepted` and `signalUserDetails` of the site's `Server` give (WebAuthn Level 3,

@@ -86,7 +86,7 @@ export class StoredServer implements PasskeyServer {
   /** `status` in the text format of Prometheus, version 0.0.4, for the answer to its request: content type `text/plain; version=0.0.4`.
    *  Names begin with `garvoeng_`, counters end in `_total`, and refusals have the label `step`. */
   metrics(): Promise<string>;
-  /** What tells copies of the file that lack the last change that this process was told, for `atLeast`. */
+  /** The number for `atLeast`, which refuses copies of the file that lack the last change that this process knows of. */
   readonly known: number;
   /** Copies the file to a path of the program's machine at which nothing stands: a whole file of one moment, on the disk once this
    *  resolves. Calls wait meanwhile. Rejected by `BadInput` where it can't be made; then there is none. */

@@ -210,7 +210,7 @@ export function checkKey({ algorithm, x, y }) {
   if (!fits) throw new BadInput("the key is out of its limits: x and y have 32 bytes of ES256, 32 and none of EdDSA, 256, 384 or 512 and 1 to 4 of RS256");
 }
 
-/** What a stored credential says, before it is handed on in fewer bits. */
+/** Checks a stored credential's values before they are written in fewer bits. */
 export function checkCredential({ algorithm, signCount }) {
   if (!ALGORITHMS.includes(algorithm)) throw new BadInput(`algorithm is ${shown(algorithm)}: ${NO_ALGORITHMS}`);
   if (["string", "bigint"].includes(typeof signCount)) throw new BadInput(`signCount is ${shown(signCount)}, and no number: write Number(..), since pg gives a bigint as text`);

@@ -52,7 +52,7 @@ export function residentKeyOf(value) {
   return requirementOf(value, "residentKey", "discouraged");
 }
 
-// What both kinds may have more: `timeout` in milliseconds, `hints`, and `extensions`, which are handed on.
+// What both kinds may have more: `timeout` in milliseconds, `hints`, and `extensions`, which go to the page as they are.
 function more(how) {
   const { timeout, hints, extensions } = ownOf(how), made = {};
   if (timeout !== undefined) made.timeout = checkWhole(timeout, "timeout, in milliseconds,", 1, 0xffffffff);

@@ -57,7 +57,7 @@ export interface Accounts<Native = Request> {
 
 /** A `WebStore` in the memory of this process, which ends with it: of a site of one process. */
 export class MemoryWebStore implements WebStore {
-  /** It keeps at most so many sign-ins, 100,000; the one that began longest ago ends then. */
+  /** `most` is the most sign-ins that it keeps, 100,000; beyond it the oldest ends. */
   constructor(most?: number);
   readonly looksUp: boolean;
   secret(): Promise<Uint8Array>;
@@ -140,8 +140,8 @@ export interface Passkeys extends Calls<Request> {
  *  pages of the site, `browser.js` that of `garvoeng/browser`.
  *
  *  Answers: 400 to what is no input, 401 where nobody is signed in or a fresher sign-in is wanted, 403 to a refusal (`refusal` is its name), to who
- *  may not, and to a page of another site, 429 with Retry-After to an address that asks too often, 500 of a damaged row, and of a body that was read
- *  before and not handed on, 503 where the storage did not answer.
+ *  may not, and to a page of another site, 429 with Retry-After to an address that asks too often, 500 for a damaged row, and for a body that was read
+ *  before and not passed on, 503 where the storage did not answer.
  *
  *  A sign-in ends after `lifetime`, by `sign-out`, and where its passkey is retired or deleted. A passkey is added shortly after a sign-in, and by
  *  the sign-in that began it. Cookies are HttpOnly and SameSite=Lax, and where an origin of the server is https also Secure, with `__Host-` before

@@ -33,7 +33,7 @@ function baseOf(value) {
   return value;
 }
 
-// What a begin is given beside the account, which is tried once, so that no visitor is told what the site has wrong.
+// What a begin takes beside the account. It is tried once, so that a mistake of the site does not show at its visitors.
 function howOf(value, name, call, ...words) {
   for (const one of OF_CORE) if (Object.hasOwn(Object(value), one)) throw new BadInput(`${one} of ${name} is the core's`);
   new Trial("localhost", ["http://localhost"])[call](...words, value);

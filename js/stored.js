@@ -116,7 +116,7 @@ export class StoredServer {
   }
 
   // What was accepted, and what was verified for it. The program tells the signature that is asked for; where it is valid it is handed
-  // back, and else the program is told that it is not, so that its log has the refusal.
+  // back, and else the program gets false, so that its log has the refusal.
   async #finish(act, session, response, more = {}) {
     const members = { session: sealed(session), response, ...more };
     let answer = await this.#ask(act, members), asked = null;

@@ -12,7 +12,7 @@ export const ACCEPTED = 0;
 export const BAD_STATEMENT = 13;
 /** Of a sign-in. */
 export const BAD_SIGNATURE = 14;
-// What a host or a response may not hand in has the numbers from here on, up to that of want of memory; steps have those below.
+// Inputs out of their limits have the numbers from here on, up to that of out of memory; steps have those below.
 const FIRST_LIMIT = 100;
 const NO_MEMORY = 127;
 const MOST_OF_A_TEXT = 128;

@@ -303,8 +303,8 @@ export class Server {
   relatedOrigins(): { origins: string[] };
   /** What the page hands to `PublicKeyCredential.signalUnknownCredential` after a sign-in was refused by W3 (section 5.1.10). */
   signalUnknownCredential(id: Uint8Array): { rpId: string; credentialId: string };
-  /** What the page hands to `signalAllAcceptedCredentials`, of a user who is signed in: all of his credentials, of which those that
-   *  are retired are left out, or their ids. A passkey that is left out is hidden or deleted. */
+  /** What the page gives `signalAllAcceptedCredentials`, for a user who is signed in: all of his credentials, or their ids. Retired ones
+   *  are left out. The authenticator hides or deletes a passkey that is left out. */
   signalAllAccepted(user: Uint8Array, credentials: Ids): { rpId: string; userId: string; allAcceptedCredentialIds: string[] };
   /** What the page hands to `signalCurrentUserDetails` where an account's names changed. */
   signalUserDetails(user: Uint8Array, userName: string, displayName?: string): { rpId: string; userId: string; name: string; displayName: string };
@@ -325,8 +325,8 @@ export interface WebStore {
   readonly looksUp: boolean;
   /** 32 bytes that all processes of the site have, and nobody else. */
   secret(): Awaitable<Uint8Array>;
-  /** Keeps that a visitor is signed in as this user for so many seconds: a number that nobody can guess. `credential` is null where it was by
-   *  other means than a passkey. */
+  /** Keeps that a visitor is signed in as this user, for `lifetime` seconds: a number that nobody can guess. `credential` is null if the visitor
+   *  did not use a passkey. */
   keepSignIn(user: Uint8Array, credential: Uint8Array | null, lifetime: number): Awaitable<string>;
   /** Who is signed in by this number, or null. */
   signedIn(number: string): Awaitable<KeptSignIn | null>;

@@ -1,4 +1,4 @@
-"""What the functions that a host hands in answer: `verify`, `is_registered` and `credential`."""
+"""What a host's functions may answer: `verify`, `is_registered` and `credential`."""
 from __future__ import annotations
 
 import inspect

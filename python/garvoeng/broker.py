@@ -178,7 +178,7 @@ class _Broker:
             peer.close()
 
     def _tell(self, peer: socket.socket, line: bytes) -> None:
-        """To one that has gone nothing is told, and one that does not read is let go."""
+        """Sends nothing to one that has gone, and lets go of one that does not read."""
         if peer in self.peers:
             try:
                 peer.sendall(line)

@@ -29,7 +29,7 @@ _BUILT_IN_FAILED = (0x36, 0x3C, 0x3F)
 """The statuses of a key whose own verification failed, so that a PIN is wanted (CTAP 2.1, section 8.2)."""
 
 Pin = Callable[[Optional[int], bool], Optional[str]]
-"""The user's PIN, or None where the user does not tell it. It is told how many attempts the key has left, where the key told it, and
+"""Gives the user's PIN, or None if the user gives none. Its parameters are how many attempts the key has left, if the key says so, and
 whether a PIN was just refused."""
 Choose = Callable[[List[Dict[str, Any]]], Optional[int]]
 """The place of one of several credentials, from 0, or None. Each has `id`, `user_id`, `user_name` and `display_name`; None where the
@@ -84,14 +84,14 @@ class Client:
     """A client for one key and the pages of one origin, as `https://example.com`.
 
     `program` is the path of `passkey-client`, or the words that run it. `pin(retries, wrong)` asks the user for the PIN: `retries` is how
-    many attempts the key has left, or None, and `wrong` whether a PIN was just refused; without it what wants a PIN is refused as `pin_needed`.
-    `touch()` is called when the user is to touch the key, once for each time. `choose(credentials)` asks which of several credentials is
-    meant, by its place from 0; each has `id`, `user_id`, `user_name` and `display_name`. Without it several are refused as `choice_needed`. A
-    user who tells no PIN or no choice is None, and the call is refused as `cancelled`. The three are called in the caller's thread.
+    many attempts the key has left, or None, and `wrong` whether a PIN was just refused; without it an act that needs a PIN is refused as `pin_needed`.
+    `touch()` is called once each time the user has to touch the key. `choose(credentials)` asks which of several credentials to
+    use, by its place from 0; each has `id`, `user_id`, `user_name` and `display_name`. Without it several are refused as `choice_needed`. If a
+    callback returns None, the call is refused as `cancelled`. The three are called in the caller's thread.
 
     With `built_in` false the key's own verification, as by a finger, is not used; where it fails the PIN is asked for. A call waits for
-    the key for `timeout` seconds in all, and not longer than the options' `timeout`, which is milliseconds; then the key is told to give
-    up, and the call is refused as `timeout`. What the user takes for a PIN or a choice does not count.
+    the key for `timeout` seconds in all, and not longer than the options' `timeout`, which is milliseconds; then the key has to give
+    up, and the call is refused as `timeout`. The time that the user takes for a PIN or a choice does not count.
 
     Calls of several threads come one after another. The key is lent: it is not closed. PINs are sent to the program and kept nowhere; no
     exception has one in its text.
@@ -320,7 +320,7 @@ class Client:
                     self._failure = failure
 
     def _let_go(self) -> None:
-        """After whatever ended a call: a key that works on it is told to give up, and what it says to that is read."""
+        """Ends the key's work after whatever ended a call: makes a key that works on it give up, and reads its answer."""
         if not self._is_waiting or not self._channel:
             return
         try:

@@ -52,7 +52,7 @@ def _new_pin() -> str:
         first = getpass.getpass("New PIN: ")
         again = getpass.getpass("New PIN again: ")
     except EOFError:
-        raise _Wrong(1, "no PIN was told") from None
+        raise _Wrong(1, "no PIN was given") from None
     if first != again:
         raise _Wrong(1, "the two PINs differ")
     return first

@@ -168,7 +168,7 @@ def _told(kind: str, verdict: str, failed: int, facts: Optional[Facts]) -> List[
 
 
 def explain(case: Any) -> Dict[str, Any]:
-    """What is told of a response, as values of JSON. `case` has the members that stand above. Told are `kind`, `verdict` (`accepted`, `refused`,
+    """What a response comes to, as values of JSON. `case` has the members that stand above. The result has `kind`, `verdict` (`accepted`, `refused`,
     or `not judged`, and then `fault` says why), `refusal`, `steps`, each with `number`, `name`, `asks`, `state` (`passed`, `failed` or
     `not reached`) and `bytes`, which are `of` what, as `text` or in `hex`; `credential`, which is to be stored; and what is `decoded`."""
     kind = kind_of(case.get("response")) if isinstance(case, Mapping) else None

@@ -3,7 +3,7 @@
     app.register_blueprint(passkeys(server), url_prefix="/passkeys")
 
 `signed_in()` is the visitor's user handle then, or None, and `fresh(300)` whether he signed in within five minutes. A site with
-Flask-Login hands in `accounts=LoginAccounts(..)`.
+For Flask-Login pass `accounts=LoginAccounts(..)`.
 """
 from __future__ import annotations
 

@@ -160,7 +160,7 @@ def check_session(session: Any) -> Optional[str]:
 
 
 def check_credential(algorithm: int, sign_count: int) -> None:
-    """What a stored credential says, before it is handed on in fewer bits."""
+    """Checks a stored credential's values before they are written in fewer bits."""
     if algorithm not in (ES256, EDDSA, RS256):
         raise BadInput("a credential's algorithm is ES256 (-7), EDDSA (-8) or RS256 (-257)")
     if not 0 <= sign_count <= MAX_COUNT:

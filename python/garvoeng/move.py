@@ -11,8 +11,8 @@ has made for the same rp id.
 ROWS has a line of JSON for each row; bytes are texts of base64url.
 Of python-fido2: `user`, the user handle, `credential_data`, the bytes of `AttestedCredentialData`, and `counter`. Of py_webauthn:
 `user`, and the members of `VerifiedRegistration`: `credential_id`, `credential_public_key`, `sign_count`, `credential_device_type`,
-`credential_backed_up`. Both may have `transports`. Each row is moved by itself, and one that is there already is left as it is: so
-the same may be done again. What is not moved is told by its line; then the status is 1."""
+`credential_backed_up`. Both may have `transports`. Each row is moved by itself, and one that is there already is left as it is, so
+you can repeat it. A row that is not moved is reported by its line; then the status is 1."""
 from __future__ import annotations
 
 import json

@@ -78,8 +78,8 @@ def _copied(file: Path, folder: str) -> Path:
 
 
 def rows_of(file: str, told: Callable[[str], None]) -> Iterator[KeptCredential]:
-    """The credentials of a site's file, in order of registration, read from a copy. What is no credential's row is told by its place,
-    and left out. Raises `BadInput` where the file is in use, is none of this version, or is damaged."""
+    """The credentials of a site's file, in order of registration, read from a copy. A row that is no credential is reported by its place,
+    and left out. Raises `BadInput` if the file is in use, has another version, or is damaged."""
     with tempfile.TemporaryDirectory() as folder:
         copy = _copied(Path(file), folder)
         with closing(sqlite3.connect(copy)) as site:

@@ -31,7 +31,7 @@ def _raised(is_registration: bool, answer: int) -> Exception:
 
 
 def verify_of(verify: Optional[Verify]) -> Verify:
-    """What verifies: that of `garvoeng.signatures`, if not said. Who hands in another one needs no `cryptography`."""
+    """The verifier, by default that of `garvoeng.signatures`. If you pass your own, `cryptography` is not needed."""
     if verify is None:
         from .signatures import is_valid
         return is_valid
@@ -110,7 +110,7 @@ class Server:
         (`discouraged`) or `preferred`. `authenticator_attachment` is `platform` or `cross-platform`, `attestation` `none`, `indirect`, `direct` or
         `enterprise`; `conditional` is for a page that lets the browser make a passkey by itself after another sign-in (Level 3,
         section 5.1.3, `mediation`): then nobody need be present. Both are looked at in the profile `level3`. `timeout` is milliseconds, `hints` a list of
-        `security-key`, `client-device` and `hybrid`; `extensions` are handed on to the page. Raises `BadInput`.
+        `security-key`, `client-device` and `hybrid`; `extensions` go to the page as they are. Raises `BadInput`.
         """
         listed = limits.check_list(exclude, "exclude", "credentials or their ids")
         verification = options.user_verification_of(user_verification)

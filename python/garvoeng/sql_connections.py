@@ -22,7 +22,7 @@ def can_connect(source: Any) -> bool:
 
 def _pool_of(source: Any) -> Any:
     """What lends connections by `getconn` and takes them back by `putconn`, as psycopg_pool and psycopg2.pool do; None where there is none.
-    Who hands in `pool.getconn` means the pool."""
+    `pool.getconn` stands for the pool."""
     owner = getattr(source, "__self__", None) if getattr(source, "__name__", None) == "getconn" else source
     return owner if all(callable(getattr(owner, name, None)) for name in ("getconn", "putconn")) else None
 
@@ -81,7 +81,7 @@ def borrowed(source: Any) -> Iterator[Any]:
 
 
 def _tuples(_: Any) -> Callable[[Sequence[Any]], Tuple[Any, ...]]:
-    """Rows as tuples, as psycopg's cursors are told."""
+    """Rows as tuples, by psycopg's `row_factory`."""
     return tuple
 
 
@@ -91,7 +91,7 @@ def plain(row: Any) -> Optional[Tuple[Any, ...]]:
 
 
 def _cursor(connection: Any, on_sqlite: bool) -> Any:
-    """A cursor whose rows are tuples, where it can be told so: those of sqlite3 and of psycopg."""
+    """A cursor whose rows are tuples, if it can be asked for them: those of sqlite3 and of psycopg."""
     if on_sqlite:
         cursor = connection.cursor()
         cursor.row_factory = None

@@ -222,12 +222,12 @@ class StoredServer:
     """A relying party over the file of the proved program, which one process may have at a time.
 
     `program` is the path of the program, `file` that of the SQLite file, which is made where there is none unless
-    `existing`. `known` is to be kept elsewhere: with it as `at_least` each copy of the file that lacks the last change is refused.
-    With `wary` each commit flushes twice, for disks that may leave any bytes of a write that is cut off. Calls come from any
-    thread. Where the program has ended, the next call starts it again; one that does not answer in `timeout` seconds is
+    `existing`. Keep `known` elsewhere: with it as `at_least`, any copy of the file that lacks the last change is refused.
+    With `wary` each commit flushes twice, for disks that may leave any bytes of a write that is cut off. Any thread may
+    call. If the program has ended, the next call starts it again; one that does not answer in `timeout` seconds is
     ended. A session ends by itself `lifetime` seconds after it began; the program may have ended meanwhile. `max_credentials`
-    is the most credentials; both are from 1 to 1,000,000. With `log` each refusal is told, and with `log="all"` each acceptance
-    and each error too; all that the program tells goes to the logger `garvoeng` of `logging`. With `shared`, which is for Linux, all processes of this user that name
+    is the most credentials; both are from 1 to 1,000,000. With `log` the program logs each refusal, and with `log="all"` each acceptance
+    and each error too, to the logger `garvoeng` of `logging`. With `shared`, which is for Linux, all processes of this user that name
     the same file and the same parameters share one program, by a Unix socket that nobody else can open; it ends two seconds
     after the last of them. `verify(algorithm, x, y, message, signature)` tells whether a signature is valid; by default
     `cryptography` does.
@@ -297,7 +297,7 @@ class StoredServer:
 
     @property
     def known(self) -> int:
-        """What tells copies of the file that lack the last change that this process was told, for `at_least`. `status` tells it too."""
+        """The number for `at_least`, which refuses copies of the file that lack the last change that this process knows of. `status` has it too."""
         return self._known
 
     def close(self) -> None:
@@ -323,8 +323,8 @@ class StoredServer:
         return [forms.to_text(one) for one in options.ids_of(ids, what, self._most_listed)]
 
     def _finish(self, act: str, session: Optional[str], response: Dict[str, Any], **more: Any) -> Tuple[Dict[str, Any], Dict[str, Any]]:
-        """What was accepted, and what was verified for it. The program tells the signature that is asked for; where it is valid it is
-        handed back, and else it is told that it is not, so that its log has the refusal."""
+        """What was accepted, and what was verified for it. The program gives the signature to verify. It gets that back if it is
+        valid, and else False, so that its log has the refusal."""
         text, asked = forms.sealed(session), {}
         answer = self._ask(act, session=text, response=response, **more)
         if "verify" in answer:

@@ -126,7 +126,7 @@ pub struct AssertionResponse<'a> {
     pub client_data: &'a [u8],
 }
 
-/// Why a response is refused: the number of a step, of a limit (100 and up), or of want of memory (127), as c/passkey.h has them.
+/// Why a response is refused: the number of a step, of a limit (100 and up), or of out of memory (127), as c/passkey.h has them.
 #[derive(Clone, Copy, Debug, PartialEq, Eq)]
 pub struct Refusal {
     /// Of a registration, or of a sign-in.
@@ -251,7 +251,7 @@ impl Verified {
 fn verified(call: &library::SignatureCall, message_room: usize, signature_room: usize, verifier: &impl Verifier) -> Result<Option<Verified>, u32> {
     let (mut message, mut signature) = (vec![0; message_room], vec![0; signature_room]);
     let mut out = library::SignatureOut::NONE;
-    // SAFETY: what the call lends lives as long as its lender's borrows; the rooms have the sizes that are told, and are apart.
+    // SAFETY: what the call lends lives as long as its lender's borrows; the rooms have the given sizes, and are apart.
     let answer = unsafe {
         library::passkey_signature_asked_5(call, message.as_mut_ptr(), message.len(), signature.as_mut_ptr(), signature.len(), &mut out)
     };

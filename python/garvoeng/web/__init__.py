@@ -60,7 +60,7 @@ def _secret(value: Union[str, bytes, None]) -> Optional[bytes]:
 
 
 def _how(how: Optional[Mapping[str, Any]], call: str, *words: Any) -> Mapping[str, Any]:
-    """What a begin is given beside the account, which is tried once, so that no visitor is told what the site has wrong."""
+    """What a begin takes beside the account. It is tried once, so that a mistake of the site does not show at its visitors."""
     made = dict(how or {})
     for name in ("user", "exclude", "allow", "sign_in"):
         if name in made:
@@ -73,7 +73,7 @@ class Passkeys:
     """The acts over a server and the site's accounts, of any `Accounts` or none.
 
     `store` keeps who is signed in, and names of passkeys: the tables of a `SqlServer`, if not said, and of another server this process's
-    memory, which is for a site of one process. Others hand in `SqlWebStore(SqlServer(..))`, or their own. `secret`, of 32 bytes or more,
+    memory, which is for a site of one process. Other sites pass `SqlWebStore(SqlServer(..))`, or their own. `secret`, of 32 bytes or more,
     signs the cookie of an open registration; if not said the store has one.
 
     A sign-in ends after `signed_in_for` seconds, by `sign-out`, and where its passkey is retired or deleted. A passkey is added for `fresh`
@@ -81,7 +81,7 @@ class Passkeys:
     https also Secure, with `__Host-` before the name. A request that changes something has to be JSON, and of a page at an origin of the
     server's or of `trusted_origins`. `rate_limit` is a `RateLimit()` if not said, and False for none.
 
-    `registration` and `sign_in` are handed on to `register_begin` and `authenticate_begin`, as `{"user_verification": True}`. `models` has
+    `registration` and `sign_in` are parameters for `register_begin` and `authenticate_begin`, such as `{"user_verification": True}`. `models` has
     the names of authenticators by their aaguid, and `translate(text)` gives the text of an error in the visitor's language.
 
     Raises `TypeError` and `BadInput` of what is out of its limits.

@@ -7,7 +7,7 @@ from typing import Dict, Mapping, Optional
 from uuid import UUID
 
 MODELS: Dict[str, str] = json.loads(Path(__file__).with_name("models.json").read_text("utf-8"))
-"""The names that a list tells, by the aaguid as it is written; a site hands in another table. None is told of zeros, which many send."""
+"""The names that a list shows, by the aaguid as text; a site can pass another table. An aaguid of zeros, which many send, has none."""
 
 
 def model_of(aaguid: Optional[bytes], models: Mapping[str, str]) -> Optional[str]:
