@@ -235,7 +235,7 @@ func offers(session *RegistrationSession, algorithm Algorithm) C.uint8_t {
 	return 0
 }
 
-// The same of a registration.
+// The same for a registration.
 func judgeRegistration(p *party, acceptNone, acceptSelf bool, session *RegistrationSession, response *registrationParts, isValid verify) (uint32, registrationTold, error) {
 	size := p.size() + 3*len(response.object) + len(response.clientData) + len(response.rawID) + keyRoom + 64
 	if session != nil {

@@ -20,7 +20,7 @@ export interface StoredServerOptions extends ServerOptions {
   wary?: boolean;
   /** What the program tells: nothing, refusals (also `true`), or acceptances and errors too. */
   log?: boolean | "refusals" | "all";
-  /** Seconds after which a session ends by itself, up to 1,000,000: 300. */
+  /** Seconds until a session expires, up to 1,000,000: 300. */
   lifetime?: number;
   /** Milliseconds after which a program that does not answer is ended: 30,000. */
   timeout?: number;

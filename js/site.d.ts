@@ -94,7 +94,7 @@ export interface PasskeysOptions<Native = Request> {
   base?: string;
   /** Seconds after a sign-in in which its visitor may begin to add a passkey: 300. */
   fresh?: number;
-  /** Seconds after which a sign-in ends by itself: 1,209,600, which is two weeks. */
+  /** Seconds until a sign-in expires: 1,209,600, which is two weeks. */
   lifetime?: number;
   /** How often an address may post: a `RateLimit`, if not said, or what answers the whole seconds to wait; `false` for no limit. */
   rateLimit?: { wait(address: string | null | undefined): Awaitable<number> } | false;
@@ -139,9 +139,9 @@ export interface Passkeys extends Calls<Request> {
  *  `id`. `sign-in/begin` with `"again": true` is for who is signed in and shall be so afresh. An empty path is a page, `passkeys.js` the script for
  *  pages of the site, `browser.js` that of `garvoeng/browser`.
  *
- *  Answers: 400 to what is no input, 401 where nobody is signed in or a fresher sign-in is wanted, 403 to a refusal (`refusal` is its name), to who
- *  may not, and to a page of another site, 429 with Retry-After to an address that asks too often, 500 for a damaged row, and for a body that was read
- *  before and not passed on, 503 where the storage did not answer.
+ *  Answers: 400 for invalid input, 401 if nobody is signed in or a fresher sign-in is needed, 403 for a refusal (`refusal` is its name), for a
+ *  visitor who may not, and for a page of another site, 429 with Retry-After for an address that asks too often, 500 for a damaged row, and for a
+ *  body that was read before and not passed on, 503 if the storage did not answer.
  *
  *  A sign-in ends after `lifetime`, by `sign-out`, and where its passkey is retired or deleted. A passkey is added shortly after a sign-in, and by
  *  the sign-in that began it. Cookies are HttpOnly and SameSite=Lax, and where an origin of the server is https also Secure, with `__Host-` before

@@ -283,7 +283,7 @@ export class Server {
    *  a credential has the id, to anyone, retired or not. Rejected by `Refused`, `BadInput` or `NoMemory`. */
   registerComplete(session: RegistrationSession | null, response: unknown,
                    how: { isRegistered: (id: Uint8Array) => Awaitable<boolean>; isFull?: boolean }): Promise<Registered>;
-  /** The same of the response's parts. `rawId` is the response's, and `isRegistered` says whether a credential has it. */
+  /** The same for the response's parts. `rawId` is the response's, and `isRegistered` says whether a credential has it. */
   registerCompleteParts(session: RegistrationSession | null, parts: { attestationObject: Uint8Array; clientData: Uint8Array },
                         how: { rawId: Uint8Array; isRegistered: boolean; isFull?: boolean; transports?: readonly string[] }): Promise<Registered>;
   /** The options for the page, PublicKeyCredentialRequestOptionsJSON, and the session that the site keeps. */
@@ -292,7 +292,7 @@ export class Server {
    *  members of the site's own more. Rejected by `Refused`, `BadInput`, `NoMemory`, or `RowDamaged` where it is no credential. */
   authenticateComplete(session: SignInSession | null, response: unknown,
                        how: { credential: (id: Uint8Array) => Awaitable<CredentialMembers | null | undefined> }): Promise<SignedIn>;
-  /** The same of the response's parts and the credential that was found. */
+  /** The same for the response's parts and the credential that was found. */
   authenticateCompleteParts(session: SignInSession | null, credential: CredentialMembers | null, parts: {
     rawId: Uint8Array; user?: Uint8Array | null; authData: Uint8Array; signature: Uint8Array; clientData: Uint8Array;
   }): Promise<SignedIn>;
@@ -407,7 +407,7 @@ export interface Store {
   /** Makes `retired` of a row true, where it is not, and deletes the sessions of its user whose kind is `registration`; whether it was so.
    *  With `user` a row of another one is left as it is. */
   retire(id: Uint8Array, user: Uint8Array | null): Awaitable<boolean>;
-  /** The same of all rows of a user; how many were not retired. */
+  /** The same for all rows of a user; how many were not retired. */
   retireAll(user: Uint8Array): Awaitable<number>;
   /** Deletes a row, and the sessions of its user whose kind is `registration`; whether it was there. `user` is as in `retire`. */
   delete(id: Uint8Array, user: Uint8Array | null): Awaitable<boolean>;
@@ -430,7 +430,7 @@ export class MemoryStore implements Store {
   erase(user: Uint8Array): number;
 }
 
-/** `Server` with its sessions and credentials in a `Store` of the site's own. What the store answers that is no answer is `StoreFailed`. */
+/** `Server` with its sessions and credentials in a `Store` of the site's own. It throws `StoreFailed` if the store answers something other than it may. */
 export class KeepingServer implements PasskeyServer {
   /** `lifetime` is how many seconds a session stays open: 300. */
   constructor(server: Server, store: Store, options?: { lifetime?: number });

@@ -23,8 +23,8 @@ ANSWER_SECONDS = 10.0
 
 
 class ClientFailed(Exception):
-    """The program could not be started, ended before it answered, did not answer in time, or answered what is no answer. What was asked
-    of the key is done or is not. The next call starts the program again."""
+    """The program could not be started, ended before it answered, did not answer in time, or gave an answer that can't be read. The key
+    may or may not have done what it was asked. The next call starts the program again."""
 
 
 def no_answer() -> ClientFailed:

@@ -1,4 +1,4 @@
-"""Why a response is refused, and what is no input."""
+"""Why a response or an input is refused."""
 from __future__ import annotations
 
 from typing import Any, Tuple
@@ -65,7 +65,7 @@ class RowDamaged(Exception):
 
 
 class SessionDamaged(Exception):
-    """The same of a session's row."""
+    """The same for a session's row."""
 
     def __init__(self, session: str, text: str) -> None:
         self.session = session

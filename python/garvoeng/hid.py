@@ -11,7 +11,7 @@ REPORT = 64
 
 
 def is_ready(file: int, seconds: float) -> bool:
-    """Whether a file has something to read, or has ended, within so many seconds."""
+    """Whether a file has something to read, or has ended, within this time in seconds."""
     waiting = select.poll()
     waiting.register(file, select.POLLIN)
     return bool(waiting.poll(max(seconds, 0) * 1000))

@@ -127,7 +127,7 @@ class Store(Protocol):
         so. With `user` a row of another one is left as it is."""
 
     def retire_all(self, user: bytes) -> int:
-        """The same of all rows of a user; how many were not retired."""
+        """The same for all rows of a user; how many were not retired."""
 
     def delete(self, credential: bytes, user: Optional[bytes]) -> bool:
         """Deletes a row, and the sessions of its user whose kind is `registration`; whether it was there. `user` is as in `retire`."""
@@ -144,8 +144,8 @@ class KeepingServer:
     """`Server` with its sessions and credentials in a `Store` of the site's own, as `MemoryStore()`.
 
     `lifetime` is how many seconds a session stays open. Raises what `Server` raises, and what the store does, which changes nothing then.
-    TypeError where the store answers what is no answer. Where another sign-in of the credential was accepted meanwhile that is
-    `Refused` with W15, and where its id was registered meanwhile with G15.
+    TypeError if the store answers something other than it may. If another sign-in with the credential was accepted meanwhile, it
+    raises `Refused` with W15, and if its id was registered meanwhile with G15.
     """
 
     def __init__(self, server: Server, store: Store, *, lifetime: int = LIFETIME) -> None:

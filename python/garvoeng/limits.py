@@ -13,7 +13,7 @@ from .library import EDDSA, ES256, MAX_ID, PROFILES, RS256
 MAX_LIST = 64
 """The most credential ids of a list. Browsers take no longer one."""
 MAX_STRICT_LIST = 8
-"""The same of a `StoredServer` of the profile `strict`."""
+"""The same for a `StoredServer` of the profile `strict`."""
 MAX_USER = 64
 """The most bytes of a user handle (WebAuthn Level 2, section 5.4.3)."""
 

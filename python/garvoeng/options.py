@@ -83,7 +83,7 @@ def of_creation(user_verification: str, resident_key: Requirement, authenticator
 
 def of_request(user_verification: str, timeout: Optional[int], hints: Sequence[str],
                extensions: Optional[Mapping[str, Any]]) -> Dict[str, Any]:
-    """The same of request options (WebAuthn Level 2, section 5.5)."""
+    """The same for request options (WebAuthn Level 2, section 5.5)."""
     return {"userVerification": user_verification, **_more(timeout, hints, extensions)}
 
 

@@ -145,7 +145,7 @@ class Server:
 
     def register_complete_parts(self, session: Optional[RegistrationSession], attestation_object: bytes, client_data: bytes, *,
                                 raw_id: bytes, is_registered: bool, is_full: bool = False, transports: Sequence[str] = ()) -> Registered:
-        """The same of the response's parts. `raw_id` is the response's `rawId`, and `is_registered` says whether a credential has it."""
+        """The same for the response's parts. `raw_id` is the response's `rawId`, and `is_registered` says whether a credential has it."""
         return self._registered(_open(session, RegistrationSession), limits.check_flag(is_registered, "is_registered"), (raw_id, client_data, attestation_object), is_full,
                                 transports, answers.waiting(self.verify))
 
@@ -207,7 +207,7 @@ class Server:
     def authenticate_complete_parts(self, session: Optional[SignInSession], credential: Optional[Credential],
                                     raw_id: bytes, user: Optional[bytes], auth_data: bytes, signature: bytes,
                                     client_data: bytes) -> SignedIn:
-        """The same of the response's parts and the credential that was found."""
+        """The same for the response's parts and the credential that was found."""
         return self._signed_in(_open(session, SignInSession), credential, (raw_id, client_data, auth_data, signature, user), answers.waiting(self.verify))
 
     def _signed_in(self, session: Optional[SignInSession], credential: Optional[Credential], parts: forms.SignInParts,

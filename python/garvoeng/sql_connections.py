@@ -126,7 +126,7 @@ class Cursor:
 
 
 def is_sqlite(connection: Any) -> bool:
-    """Whether it is SQLite that answers, where a text is no number; to PostgreSQL the literal is one."""
+    """Whether SQLite answers, to which a text does not equal a number; PostgreSQL takes the literal as a number."""
     cursor = _cursor(connection, False)
     cursor.execute("select '1' = 1 as is_postgres")
     said = plain(cursor.fetchone())

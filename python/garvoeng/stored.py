@@ -225,7 +225,7 @@ class StoredServer:
     `existing`. Keep `known` elsewhere: with it as `at_least`, any copy of the file that lacks the last change is refused.
     With `wary` each commit flushes twice, for disks that may leave any bytes of a write that is cut off. Any thread may
     call. If the program has ended, the next call starts it again; one that does not answer in `timeout` seconds is
-    ended. A session ends by itself `lifetime` seconds after it began; the program may have ended meanwhile. `max_credentials`
+    ended. A session expires `lifetime` seconds after it began, also if the program ended meanwhile. `max_credentials`
     is the most credentials; both are from 1 to 1,000,000. With `log` the program logs each refusal, and with `log="all"` each acceptance
     and each error too, to the logger `garvoeng` of `logging`. With `shared`, which is for Linux, all processes of this user that name
     the same file and the same parameters share one program, by a Unix socket that nobody else can open; it ends two seconds

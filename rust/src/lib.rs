@@ -139,7 +139,7 @@ impl Refusal {
     /// What it says, for a log.
     pub fn text(&self) -> String {
         let mut room = [0; 128];
-        // SAFETY: the room has the size that is told.
+        // SAFETY: the room has the given size.
         let size = unsafe { library::passkey_refusal_text_5(self.is_registration.into(), self.number, room.as_mut_ptr(), room.len()) };
         String::from_utf8_lossy(&room[..size]).into_owned()
     }
@@ -476,7 +476,7 @@ pub fn key_from_cose(bytes: &[u8]) -> Option<Key> {
 /// The COSE_Key bytes of a key; `None` where it is out of its limits.
 pub fn key_to_cose(key: &Key) -> Option<Vec<u8>> {
     let mut room = vec![0; key.x.len() + key.y.len() + 32];
-    // SAFETY: the room has the size that is told, and the key is lent for the call.
+    // SAFETY: the room has the given size, and the key is lent for the call.
     let size = unsafe { library::passkey_key_to_cose_5(&lent_key(key), room.as_mut_ptr(), room.len()) };
     room.truncate(size);
     (size > 0).then_some(room)

@@ -82,7 +82,7 @@ class DjangoAccounts(Accounts):
             raise Denied(_("the name is another account's"), 409) from None
 
     def signed_in(self, request: Any, user: bytes, accepted: Any) -> Mapping[str, Any]:
-        """By all backends, of which one may turn the visitor away."""
+        """By all backends, any of which may turn the visitor away."""
         found = authenticate(request, passkey_accepted=accepted)
         if found is None:
             raise Denied(_("the account may not sign in"))

@@ -10,8 +10,8 @@ options, `register/finish` and `sign-in/finish` take the browser's response and 
 `name`, `model`, `created`, `used`, `backed_up` and `retired` of each passkey, `rename` takes `id` and `name`, `retire` `id`. `sign-in/begin`
 with `"again": true` is for who is signed in and shall be so afresh. An empty path is a page, `passkeys.js` the script for pages of the site.
 
-Answers: 400 to what is no input, 401 where nobody is signed in or a fresher sign-in is wanted, 403 to a refusal (`refusal` is its name), to
-who may not, and to a page of another site, 429 with Retry-After to an address that asks too often, 500 of a damaged row.
+Answers: 400 for invalid input, 401 if nobody is signed in or a fresher sign-in is needed, 403 for a refusal (`refusal` is its name), for
+a visitor who may not, and for a page of another site, 429 with Retry-After for an address that asks too often, 500 for a damaged row.
 """
 from __future__ import annotations
 
