@@ -18,7 +18,7 @@ READERS = [
     ("embed", "Embed", "Call the checks from a program of your own.", ["docs/EMBED.md", "docs/PYTHON.md", "docs/RATTLE.md"]),
     ("keys", "Keys and clients", "Talk to a security key, or build one.", ["docs/CLIENT.md", "docs/KEY.md"]),
     ("audit", "Audit", "Read what is proved, tested and trusted.", ["docs/PROMISES.md", "docs/AGREEMENT.md", "SECURITY.md", "docs/reports/INDEX.md", "docs/reports/NUMBERS.md", "docs/reports/WEAKENINGS.md", "docs/reports/GATE.md"]),
-    ("contribute", "Contribute", "Change the code.", ["CONTRIBUTING.md", "docs/ARCHITECTURE.md", "docs/WORDS.md", "docs/DECISIONS.md", "crates/README.md", "CHANGELOG.md"]),
+    ("contribute", "Contribute", "Change the code.", ["CONTRIBUTING.md", "docs/ARCHITECTURE.md", "docs/WORDS.md", "docs/DECISIONS.md", "crates/README.md", "CHANGELOG.md", "docs/STABILITY.md"]),
     ("speed", "Speed", "See what it costs.", ["docs/FIGURES.md", "speed/README.md"]),
 ]
 FILE_OF = {page: f"{file}.html" for file, _, _, pages in READERS for page in pages}
