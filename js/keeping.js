@@ -1,8 +1,8 @@
 // A relying party whose sessions and credentials are in a storage of the site's own.
 import { BadInput, Refused, StoreFailed, ofSession } from "./errors.js";
-import { allowed, checkFunction, checkId, checkSession, checkUser, checkWhole, fitting, optionsIn, shown } from "./limits.js";
+import { allowed, checkFunction, checkId, checkSession, checkUser, checkWhole, fitting, isBytes, optionsIn, shown } from "./limits.js";
 import { registrationOptionsIn, signInOptionsIn } from "./options.js";
-import { KeptCredential, RegistrationSession, SignInSession, keptIn, ofRow, openIn } from "./records.js";
+import { KeptCredential, RegistrationSession, SignInSession, ofRow, openIn, soundIn, soundOf } from "./records.js";
 
 /** How many seconds a session stays open, if not said. */
 export const LIFETIME = 300;
@@ -35,14 +35,16 @@ export function keepingOver(randomBytes) {
     #server;
     #store;
     #lifetime;
+    #logger;
 
     constructor(server, store, options) {
-      const { lifetime = LIFETIME } = optionsIn(options, "KeepingServer", ["lifetime"]);
+      const { lifetime = LIFETIME, logger = console.error } = optionsIn(options, "KeepingServer", ["lifetime", "logger"]);
       if (typeof server?.relatedOrigins !== "function") throw new BadInput("a KeepingServer is over a Server: write new KeepingServer(new Server(..), new MemoryStore())");
       for (const name of CALLS) checkFunction(store?.[name], `the store's ${name}`, "that of MemoryStore");
       this.#server = server;
       this.#store = store;
       this.#lifetime = checkWhole(lifetime, "lifetime, in seconds,", 1);
+      this.#logger = checkFunction(logger, "logger", "(error) => console.error(error)");
       this.origins = server.origins;
       this.topOrigins = server.topOrigins;
     }
@@ -65,9 +67,10 @@ export function keepingOver(randomBytes) {
       return found === null ? null : ofSession(number, () => openIn(read, found.data));
     }
 
+    // The row of this id, or null.
     async #row(id) {
       const found = (await this.#store.row(id.slice())) ?? null;
-      return found === null ? null : ofRow(id, () => keptIn(found));
+      return found === null ? null : ofRow(id, () => soundIn(found));
     }
 
     // That a verdict was written; or the step that refuses what came meanwhile.
@@ -108,7 +111,7 @@ export function keepingOver(randomBytes) {
 
     async rows(user = null) {
       const found = answered("rows", await this.#store.rows(user === null ? null : checkUser(user)), Array.isArray, "a list of rows");
-      return Array.from(found, (row) => ofRow(new Uint8Array(row?.id ?? 0), () => keptIn(row)));
+      return soundOf(found, (row) => ofRow(isBytes(row?.id) ? row.id : new Uint8Array(0), () => soundIn(row)), this.#logger);
     }
 
     // What a change of one credential, and of an account if one is named, answered.

@@ -1,5 +1,5 @@
 // What a site keeps between calls, in values that a database can hold.
-import { BadInput, RowDamaged, marked } from "./errors.js";
+import { BadInput, RowDamaged, logTo, marked } from "./errors.js";
 import { fromText, toText } from "./forms.js";
 import {
   ALGORITHMS, FORMATS, MAX_COUNT, checkAlgorithms, checkBytes, checkFlag, checkId, checkKey, checkUser, checkWhole, memberOf, optionsIn, ownOf, shown, transportsIn,
@@ -253,17 +253,30 @@ export function openIn(kind, json) {
   return session;
 }
 
-/** The row of a host's own, which may have members more. */
-export function keptIn(row) {
-  if (row instanceof KeptCredential) return row;
-  if (typeof row !== "object") throw new BadInput(`the row is ${shown(row)}: write a KeptCredential, or null`);
-  return new KeptCredential(Object.fromEntries([...MEMBERS, ...KEPT].map((name) => [name, memberOf(row, name)])));
+/** The row of a host's own, which may have members more, in its limits. */
+export function soundIn(row) {
+  if (typeof row !== "object" || row === null) throw new BadInput(`the row is ${shown(row)}: write a KeptCredential`);
+  const made = row instanceof KeptCredential ? row : new KeptCredential(Object.fromEntries([...MEMBERS, ...KEPT].map((name) => [name, memberOf(row, name)])));
+  return KeptCredential.fromJSON(made.toJSON());
 }
 
 /** What is thrown where the row of an id led to this error: `RowDamaged` in place of each `BadInput`, or of those with these numbers. */
 export function rowError(id, error, numbers = null) {
   if (!(error instanceof BadInput) || numbers?.includes(error.number) === false) return error;
   return new RowDamaged(id, `the row of the credential ${toText(id)} is damaged: ${error.message}`, { cause: error });
+}
+
+/** What `read` makes of rows. One that is damaged is left out, and logged. */
+export function soundOf(rows, read, logger) {
+  return Array.from(rows).flatMap((row) => {
+    try {
+      return [read(row)];
+    } catch (error) {
+      if (!(error instanceof RowDamaged)) throw error;
+      logTo(logger, error);
+      return [];
+    }
+  });
 }
 
 /** What `make` makes of the row of an id. */

@@ -3,12 +3,12 @@
 import { SessionDamaged, logTo, ofSession } from "./errors.js";
 import { toText } from "./forms.js";
 import {
-  BadInput, KeptCredential, Refused, RegistrationSession, RowDamaged, SignInSession, StoreFailed, coseKeyOf, credentialFromCose,
+  BadInput, KeptCredential, Refused, RegistrationSession, SignInSession, StoreFailed, coseKeyOf, credentialFromCose,
 } from "./index.js";
 import { LIFETIME, isNumber, now } from "./keeping.js";
 import { allowed, checkCredential, checkFunction, checkId, checkIds, checkSession, checkUser, checkWhole, fitting, optionsIn, shown } from "./limits.js";
 import { registrationOptionsIn, signInOptionsIn } from "./options.js";
-import { ofRow, openIn } from "./records.js";
+import { ofRow, openIn, soundOf } from "./records.js";
 import { SqlWebStore, forgetName, isSignedIn, membersIn, stored } from "./sql_visitors.js";
 
 export { SqlWebStore } from "./sql_visitors.js";
@@ -32,7 +32,7 @@ const HOOKS = ["onRegistered", "onSignedIn", "onErased"];
 const COLUMNS = "id, user_handle, public_key, sign_count, backup_eligible, retired, transports, backed_up, aaguid, created_at, used_at";
 
 const flagOf = (value) => (value === null ? null : Number(value));
-const isTrue = (value) => (value === null ? null : value !== 0);
+const isTrue = (value, name) => (value === null ? null : checkWhole(value, name, 0, 1) === 1);
 const timeOf = (value) => (value === null ? null : Number(value));
 
 // The number of a session, or null where a text is none.
@@ -45,13 +45,14 @@ const KINDS = ["algorithms", "allow", "signed_in"];
 function credentialOf(row) {
   return ofRow(new Uint8Array(row.id), () => {
     const credential = credentialFromCose({
-      id: row.id, user: row.user_handle, coseKey: row.public_key, signCount: Number(row.sign_count), eligible: isTrue(row.backup_eligible),
-      retired: row.retired !== 0, transports: row.transports.split(",").filter((one) => one !== ""),
+      id: row.id, user: row.user_handle, coseKey: row.public_key, signCount: Number(row.sign_count), eligible: isTrue(row.backup_eligible, "backup_eligible"),
+      retired: isTrue(row.retired, "retired"), transports: row.transports.split(",").filter((one) => one !== ""),
     });
     checkCredential(credential);
     checkUser(credential.user);
     checkIds([credential]);
-    return new KeptCredential({ ...credential, aaguid: row.aaguid === null ? null : new Uint8Array(row.aaguid), backedUp: isTrue(row.backed_up),
+    if (row.aaguid !== null && row.aaguid.length !== 16) throw new BadInput("aaguid is not of 16 bytes");
+    return new KeptCredential({ ...credential, aaguid: row.aaguid === null ? null : new Uint8Array(row.aaguid), backedUp: isTrue(row.backed_up, "backed_up"),
                                 createdAt: timeOf(row.created_at), usedAt: timeOf(row.used_at) });
   });
 }
@@ -188,17 +189,8 @@ export class SqlServer {
     return { options, session: await stored(queryOf(run), { ...session.toJSON(), ...more }, this.#lifetime) };
   }
 
-  // The credentials of rows. One that is damaged is left out, and logged.
   #listed(rows) {
-    return rows.flatMap((row) => {
-      try {
-        return [credentialOf(row)];
-      } catch (error) {
-        if (!(error instanceof RowDamaged)) throw error;
-        logTo(this.#logger, error);
-        return [];
-      }
-    });
+    return soundOf(rows, credentialOf, this.#logger);
   }
 
   // The credentials of an account that sign in.

@@ -432,8 +432,8 @@ export class MemoryStore implements Store {
 
 /** `Server` with its sessions and credentials in a `Store` of the site's own. It throws `StoreFailed` if the store answers something other than it may. */
 export class KeepingServer implements PasskeyServer {
-  /** `lifetime` is how many seconds a session stays open: 300. */
-  constructor(server: Server, store: Store, options?: { lifetime?: number });
+  /** `lifetime` is how many seconds a session stays open: 300. `logger` gets each row that a list leaves out: `console.error`. */
+  constructor(server: Server, store: Store, options?: { lifetime?: number; logger?: (error: unknown) => void });
   readonly origins: readonly string[];
   readonly topOrigins: readonly string[];
   registerBegin(user: Uint8Array, userName: string, options?: RegistrationOptions): Promise<{ options: PublicKeyCredentialCreationOptionsJSON; session: string }>;

@@ -15,7 +15,7 @@ function spoilt() {
 }
 
 function site() {
-  const store = spoilt(), server = new KeepingServer(party(), store);
+  const store = spoilt(), logged = [], server = new KeepingServer(party(), store, { logger: (error) => logged.push(error) });
   const registers = async (device) => {
     const { options, session } = await server.registerBegin(user, "name");
     return server.registerComplete(session, device.register(options));
@@ -24,7 +24,7 @@ function site() {
     const { options, session } = await server.authenticateBegin();
     return server.authenticateComplete(session, device.signIn(options, { user }));
   };
-  return { store, server, registers, signsIn };
+  return { store, server, registers, signsIn, logged };
 }
 
 test("what is no answer is the store's failure, and counts as none", async () => {
@@ -45,13 +45,25 @@ test("what is no answer is the store's failure, and counts as none", async () =>
   for (const row of [7, "x", true, {}, [], { ...store.row(device.id), signCount: "1" }, { ...store.row(device.id), retired: 0 }, { ...store.row(device.id), x: "AA" }]) {
     store.by.row = () => row;
     await assert.rejects(again(), (error) => error instanceof RowDamaged && toText(error.id) === toText(device.id), JSON.stringify(row));
-    store.by.rows = () => [row];
-    await assert.rejects(server.rows(), RowDamaged);
-    store.by = {};
-    Object.keys(store.by).forEach((name) => delete store.by[name]);
     delete store.by.row;
   }
   assert.deepEqual(store.inner.rows(null).map(({ signCount }) => signCount), [0]);
+});
+
+test("a damaged row is left out of lists, and logged", async () => {
+  const { store, server, registers, logged } = site(), device = new Device(), whole = new Device(undefined, { id: Buffer.from("whole") });
+  for (const one of [device, whole]) await registers(one);
+  const row = store.inner.row(device.id), sound = store.inner.row(whole.id), ids = (list) => list.map(({ id }) => (typeof id === "string" ? id : toText(id)));
+  for (const bad of [7, "x", null, {}, [], { ...row, signCount: "1" }, { ...row, retired: 0 }, { ...row, x: "AA" }, { ...row, user: new Uint8Array(65) }, { ...row, algorithm: 5 }, { ...row, signCount: -1 },
+                     { ...row, y: new Uint8Array(3) }, { ...row, aaguid: new Uint8Array(3) }, { ...row, id: new Uint8Array(0) }]) {
+    store.by.rows = () => [bad, sound];
+    logged.length = 0;
+    assert.deepEqual(ids(await server.rows(user)), [toText(whole.id)], JSON.stringify(bad));
+    assert.deepEqual(ids((await server.registerBegin(user, "name")).options.excludeCredentials), [toText(whole.id)]);
+    assert.deepEqual(ids((await server.authenticateBegin({ user })).options.allowCredentials), [toText(whole.id)]);
+    assert.ok(logged.length === 3 && logged.every((error) => error instanceof RowDamaged && error.message.includes("is damaged")));
+    if (bad?.x !== undefined && bad.id.length > 0) assert.deepEqual(logged.map(({ id }) => toText(id)), Array(3).fill(toText(device.id)));
+  }
 });
 
 test("a store that fails: what it throws is thrown, and nothing has changed", async () => {

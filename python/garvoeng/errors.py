@@ -50,7 +50,7 @@ class BadInput(ValueError):
 
 class RowDamaged(Exception):
     """A credential's row is none that this package writes: the site's to mend, and no fault of the visitor's. The logger `garvoeng` has
-    it."""
+    it, but of `Server`, whose look-up gave it."""
 
     def __init__(self, id: Any, text: str) -> None:
         self.id = id

@@ -6,15 +6,16 @@ import logging
 import os
 import re
 import time
+from contextlib import suppress
 from dataclasses import dataclass, replace
 from typing import Any, Dict, List, Mapping, NoReturn, Optional, Protocol, Sequence, Tuple, Type, TypeVar, Union
 
 from . import answers, limits, options
 from .answers import in_thread
-from .errors import BadInput, Refused, SessionDamaged
+from .errors import BadInput, Refused, RowDamaged, SessionDamaged
 from .library import EDDSA, ES256, RS256, refusal_text
 from .options import Ids, Requirement
-from .records import KeptCredential, Registered, RegistrationSession, SignedIn, SignInSession, open_session
+from .records import KeptCredential, Registered, RegistrationSession, SignedIn, SignInSession, check_row, open_session
 from .server import Server
 
 LIFETIME = 300
@@ -136,6 +137,15 @@ class Store(Protocol):
         """Deletes all rows and all sessions of a user; how many rows."""
 
 
+def _check(row: KeptCredential) -> None:
+    """Raises `RowDamaged`, which is logged."""
+    try:
+        check_row(row)
+    except RowDamaged as damaged:
+        _log.error("%s", damaged)
+        raise
+
+
 def _wrong(call: str, said: Any, wanted: str) -> NoReturn:
     answers.refuse(f"the store's {call}", said, wanted, awaited_in="")
 
@@ -144,8 +154,8 @@ class KeepingServer:
     """`Server` with its sessions and credentials in a `Store` of the site's own, as `MemoryStore()`.
 
     `lifetime` is how many seconds a session stays open. Raises what `Server` raises, and what the store does, which changes nothing then.
-    TypeError if the store answers something other than it may. If another sign-in with the credential was accepted meanwhile, it
-    raises `Refused` with W15, and if its id was registered meanwhile with G15.
+    TypeError if the store answers something other than it may, and `RowDamaged` if the row that is asked for is damaged. If another
+    sign-in with the credential was accepted meanwhile, it raises `Refused` with W15, and if its id was registered meanwhile with G15.
     """
 
     def __init__(self, server: Server, store: Store, *, lifetime: int = LIFETIME) -> None:
@@ -183,10 +193,17 @@ class KeepingServer:
 
     # ---- what the store answers
 
-    def _row(self, id: bytes) -> Optional[KeptCredential]:
+    def _found(self, id: bytes) -> Optional[KeptCredential]:
         found = self.store.row(id)
         if found is not None and not isinstance(found, KeptCredential):
             _wrong("row", found, "a KeptCredential or None")
+        return found
+
+    def _row(self, id: bytes) -> Optional[KeptCredential]:
+        """The row of an id, or None. Raises `RowDamaged`."""
+        found = self._found(id)
+        if found is not None:
+            _check(found)
         return found
 
     def _check_written(self, call: str, is_registration: bool, said: Any, meanwhile: str) -> None:
@@ -219,7 +236,7 @@ class KeepingServer:
         """What a RegistrationResponseJSON registers; it is stored, and the session closed."""
         number = limits.check_session(session)
         made = self.server.register_complete(self._opened(number, "registration", RegistrationSession), response,
-                                             is_registered=lambda id: self._row(id) is not None)
+                                             is_registered=lambda id: self._found(id) is not None)
         assert number is not None
         row = KeptCredential(**vars(made.credential), aaguid=made.aaguid, backed_up=made.backed_up, created_at=int(time.time()))
         self._check_written("register", True, self.store.register(number, row), "the credential was registered meanwhile")
@@ -269,11 +286,17 @@ class KeepingServer:
     # ---- sessions and credentials
 
     def rows(self, user: Optional[bytes] = None) -> List[KeptCredential]:
-        """The credentials of a user, or all, retired ones too, in order of registration."""
+        """The credentials of a user, or all, retired ones too, in order of registration. A row that is damaged is left out, and
+        logged."""
         found = self.store.rows(None if user is None else limits.check_user(user))
         if not isinstance(found, (list, tuple)) or not all(isinstance(row, KeptCredential) for row in found):
             _wrong("rows", found, "a list of KeptCredential")
-        return list(found)
+        listed = []
+        for row in found:
+            with suppress(RowDamaged):
+                _check(row)
+                listed.append(row)
+        return listed
 
     def _own(self, user: bytes) -> List[KeptCredential]:
         """A user's passkeys that may sign in."""

@@ -2,6 +2,7 @@
 each visitor's response."""
 from __future__ import annotations
 
+import os
 import re
 from collections.abc import Iterable, Mapping
 from typing import Any, List, Optional, Sequence, Tuple
@@ -87,12 +88,26 @@ def check_party(rp_id: str, origins: Sequence[str]) -> Tuple[str, ...]:
     return listed
 
 
+def check_origins(origins: Sequence[str], what: str) -> Tuple[str, ...]:
+    """Origins of other pages than the site's."""
+    listed = tuple(check_list(origins, what, "texts, as [\"https://example.com\"]"))
+    for origin in listed:
+        _host_of(origin, what)
+    return listed
+
+
+def is_origin(value: str) -> bool:
+    """Whether a text is an origin as browsers write it."""
+    try:
+        _host_of(value, "it")
+    except BadInput:
+        return False
+    return True
+
+
 def check_top_origins(top_origins: Sequence[str]) -> Tuple[str, ...]:
     """The origins of the pages that may have the site's in a frame (WebAuthn Level 3, section 5.8.1, `topOrigin`)."""
-    listed = tuple(check_list(top_origins, "top_origins", "texts, as [\"https://example.com\"]"))
-    for origin in listed:
-        _host_of(origin, "top_origins")
-    return listed
+    return check_origins(top_origins, "top_origins")
 
 
 def check_attestation(accept_none: bool, accept_self: bool) -> None:
@@ -122,6 +137,13 @@ def check_id(value: bytes, what: str) -> bytes:
     return credential_id
 
 
+def check_aaguid(value: bytes) -> bytes:
+    aaguid = check_bytes(value, "aaguid")
+    if len(aaguid) != 16:
+        raise BadInput("aaguid is not of 16 bytes")
+    return aaguid
+
+
 def check_ids(ids: Sequence[bytes], what: str, most: int = MAX_LIST) -> Tuple[bytes, ...]:
     if len(ids) > most:
         raise BadInput(f"{what} has at most {most} credential ids, and not {len(ids)}")
@@ -142,6 +164,22 @@ def check_key(algorithm: int, x: bytes, y: bytes) -> None:
     fits = len(x) in (256, 384, 512) and 1 <= len(y) <= 4 if algorithm == RS256 else len(x) == 32 and len(y) == (32 if algorithm == ES256 else 0)
     if not fits:
         raise BadInput("the key is out of its limits: x and y have 32 bytes of ES256, 32 and none of EdDSA, 256, 384 or 512 and 1 to 4 of RS256")
+
+
+def check_path(value: Any, what: str) -> str:
+    """The path of a file, as a str or a `pathlib.Path`."""
+    path = os.fspath(value) if isinstance(value, os.PathLike) else value
+    if not check_text(path, what) or "\0" in path:
+        raise BadInput(f"{what} is the path of a file: not {path!r}")
+    return str(path)
+
+
+def check_whole(value: Any, what: str, least: int, most: int = 2**63 - 1) -> int:
+    if not isinstance(value, int) or isinstance(value, bool):
+        raise TypeError(f"{what} is a whole number, and not {kind_of(value)}")
+    if not least <= value <= most:
+        raise BadInput(f"{what} is a whole number from {least} to {most}, and not {value}")
+    return value
 
 
 def check_lifetime(seconds: Any, what: str = "lifetime") -> int:

@@ -6,7 +6,7 @@ from dataclasses import dataclass
 from typing import Any, Dict, Iterable, Mapping, Optional, Tuple, Type, TypeVar, Union
 
 from . import forms, library, limits
-from .errors import BadInput
+from .errors import BadInput, RowDamaged
 from .library import EDDSA, ES256, RS256
 
 Json = Union[str, Mapping[str, Any]]
@@ -55,12 +55,6 @@ def _whole(said: Mapping[str, Any], name: str, most: int) -> int:
 
 def _time_or_none(said: Mapping[str, Any], name: str) -> Optional[int]:
     return None if name in said and said[name] is None else _whole(said, name, _TIME)
-
-
-def _aaguid(value: bytes) -> bytes:
-    if len(value) != 16:
-        raise BadInput("aaguid is not of 16 bytes")
-    return value
 
 
 def _text_or_none(value: Optional[bytes]) -> Optional[str]:
@@ -232,8 +226,19 @@ class KeptCredential(Credential):
         """The row of what `to_json` gave, or of its text. Raises `BadInput`, also of a `Credential` alone."""
         said = _object(value, "credential")
         aaguid = _bytes_or_none(said, "aaguid")
-        return cls(*_credential_in(said), None if aaguid is None else _aaguid(aaguid), _flag_or_none(said, "backed_up"),
+        return cls(*_credential_in(said), None if aaguid is None else limits.check_aaguid(aaguid), _flag_or_none(said, "backed_up"),
                    _time_or_none(said, "created_at"), _time_or_none(said, "used_at"))
+
+
+def check_row(row: Credential) -> None:
+    """Raises `RowDamaged` where a row of a host's own is none that this package writes."""
+    try:
+        if isinstance(row, KeptCredential):
+            KeptCredential.from_json(KeptCredential.to_json(row))
+        else:
+            Credential.from_json(Credential.to_json(row))
+    except (AttributeError, BadInput, TypeError) as error:
+        raise RowDamaged(row.id, str(error)) from None
 
 
 def _told(accepted: Union["Registered", "SignedIn"]) -> Dict[str, Any]:
@@ -273,7 +278,7 @@ class Registered:
         form = said.get("format")
         if not isinstance(form, str) or form not in library.FORMATS:
             raise BadInput(f"format is one of {', '.join(library.FORMATS)}")
-        return cls(_credential_of(said, "credential"), _aaguid(_bytes(said, "aaguid")), form, _flag(said, "user_verified"),
+        return cls(_credential_of(said, "credential"), limits.check_aaguid(_bytes(said, "aaguid")), form, _flag(said, "user_verified"),
                    _flag(said, "backed_up"), _whole(said, "flags", 255), _bytes(said, "extensions"))
 
 

@@ -10,13 +10,14 @@ from .answers import Verify
 from .errors import BadInput, Refused
 from .library import EDDSA, ES256, RS256
 from .options import Ids, Requirement
-from .records import Credential, Registered, RegistrationSession, SignedIn, SignInSession
+from .records import Credential, Registered, RegistrationSession, SignedIn, SignInSession, check_row
 
 Open = TypeVar("Open", RegistrationSession, SignInSession)
 
 _MEMBERS = tuple(field.name for kind in (Credential, SignedIn) for field in fields(kind))
 _NO_REGISTRATION = RegistrationSession(b"", b"")
 _NO_SESSION = SignInSession(b"")
+_FLAGS = (True, False)
 _NO_CREDENTIAL = Credential(b"", b"", ES256, b"", b"", 0, None)
 
 
@@ -45,6 +46,20 @@ def _credential(found: Any) -> Optional[Credential]:
     if found is not None and not isinstance(found, Credential):
         answers.refuse("credential", found, "a Credential or None")
     return found
+
+
+class _OfRow:
+    """Raises `RowDamaged` in place of an error by which a verdict fails where the row that was found is damaged."""
+
+    def __init__(self, found: Optional[Credential]) -> None:
+        self._found = found
+
+    def __enter__(self) -> None:
+        pass
+
+    def __exit__(self, kind: Optional[Type[BaseException]], *_: Any) -> None:
+        if kind is not None and self._found is not None and issubclass(kind, (BadInput, OverflowError, TypeError)):
+            check_row(self._found)
 
 
 def _open(session: Any, kind: Type[Open]) -> Optional[Open]:
@@ -189,11 +204,14 @@ class Server:
         """Who signed in, of an AuthenticationResponseJSON: the credential as it is to be stored from now on.
 
         `session` is None where none is open; a text counts as None. `credential(id)` answers the site's credential of the id, or None. Raises
-        `Refused` with the first step that is not passed, `BadInput` where the response is not in the form of JSON.
+        `Refused` with the first step that is not passed, `BadInput` where the response is not in the form of JSON, `RowDamaged` where the
+        credential is none that this package writes.
         """
         begun = _open(session, SignInSession)
         parts = forms.sign_in_parts(response)
-        return self._signed_in(begun, _credential(credential(parts[0])), parts, answers.waiting(self.verify))
+        found = _credential(credential(parts[0]))
+        with _OfRow(found):
+            return self._signed_in(begun, found, parts, answers.waiting(self.verify))
 
     async def authenticate_complete_async(
             self, session: Optional[SignInSession], response: Mapping[str, Any], *,
@@ -202,7 +220,8 @@ class Server:
         begun = _open(session, SignInSession)
         parts = forms.sign_in_parts(response)
         found = _credential(await answers.awaited(credential(parts[0])))
-        return await answers.judged(self.verify, lambda verify: self._signed_in(begun, found, parts, verify))
+        with _OfRow(found):
+            return await answers.judged(self.verify, lambda verify: self._signed_in(begun, found, parts, verify))
 
     def authenticate_complete_parts(self, session: Optional[SignInSession], credential: Optional[Credential],
                                     raw_id: bytes, user: Optional[bytes], auth_data: bytes, signature: bytes,
@@ -216,6 +235,8 @@ class Server:
         begun = _NO_SESSION if session is None else session
         stored = _NO_CREDENTIAL if credential is None else credential
         allow = begun.allow
+        if stored.retired not in _FLAGS or stored.eligible is not None and stored.eligible not in _FLAGS:
+            raise TypeError("retired of a credential is True or False, eligible one of them or None")
         try:
             said = _passkey.assertion(
                 Credential, SignedIn, _MEMBERS, verify, credential, stored.transports, stored.eligible,

@@ -12,6 +12,7 @@ from typing import Any, Callable, Dict, Iterator, List, Mapping, Optional, Tuple
 from . import limits, options, sql_connections
 from .answers import in_thread, kind_of, refuse
 from .errors import BadInput
+from .forms import to_text
 from .keeping import LIFETIME
 from .options import Ids
 from .records import Credential, KeptCredential, Registered, RegistrationSession, SignedIn, SignInSession
@@ -183,11 +184,13 @@ class SqlServer:
         """Keeps that a visitor is signed in as this user, by this passkey or, where it is None, by other means: the number that a cookie
         has, 32 hex digits. It ends after `lifetime` seconds, by `abandon`, where the passkey is retired or deleted, and with the account."""
         identity, handle = None if credential is None else limits.check_id(credential, "credential"), limits.check_user(user)
-        return self.within(lambda rows: rows.keep_sign_in(handle, identity, lifetime))
+        seconds = limits.check_lifetime(lifetime)
+        return self.within(lambda rows: rows.keep_sign_in(handle, identity, seconds))
 
     def signed_in(self, number: Optional[str], *, fresh: Optional[int] = None) -> Optional[KeptSignIn]:
         """Who is signed in by this number, or None; with `fresh`, if that was at most this many seconds ago."""
-        return self.within(lambda rows: rows.signed_in(number, fresh), writes=False)
+        most = None if fresh is None else limits.check_lifetime(fresh, "fresh")
+        return self.within(lambda rows: rows.signed_in(number, most), writes=False)
 
     # ---- sessions and credentials
 
@@ -198,7 +201,10 @@ class SqlServer:
         return self.within(lambda rows: rows.credentials(handle), writes=False)
 
     def add(self, credential: Credential, *, backed_up: Optional[bool] = None, aaguid: Optional[bytes] = None) -> None:
-        """Stores a credential of another library (docs/COMING.md). Raises `Refused`, G15, where its id is registered."""
+        """Stores a credential of another library (docs/COMING.md). Raises `Refused`, G15, where its id is registered, and `BadInput` where
+        it is none that a row may have."""
+        told = None if aaguid is None else to_text(aaguid)
+        KeptCredential.from_json({**Credential.to_json(credential), "backed_up": backed_up, "aaguid": told, "created_at": None, "used_at": None})
         self.within(lambda rows: rows.add(credential, backed_up, aaguid))
 
     def retire(self, credential: bytes, *, user: Optional[bytes] = None) -> bool:

@@ -70,7 +70,7 @@ def _read(row: Sequence[Any]) -> KeptCredential:
     credential = Credential.from_cose(limits.check_id(identity, "id"), limits.check_user(user), key,
                                       _whole(row[3], "sign_count", limits.MAX_COUNT), eligible, bool(_whole(row[5], "retired", 1)),
                                       transports_in(limits.check_text(row[6], "transports").split(",")))
-    return KeptCredential(**vars(credential), aaguid=None if row[8] is None else limits.check_bytes(row[8], "aaguid"), backed_up=backed_up,
+    return KeptCredential(**vars(credential), aaguid=None if row[8] is None else limits.check_aaguid(row[8]), backed_up=backed_up,
                           created_at=_whole(row[9], "created_at"), used_at=None if row[10] is None else _whole(row[10], "used_at"))
 
 

@@ -13,7 +13,7 @@ from dataclasses import replace
 import pytest
 from device import AT, ED, UP, UV, Device, changed
 
-from garvoeng import EDDSA, ES256, BadInput, Credential, Refused, Server, SignedIn, _passkey, forms, server, signatures
+from garvoeng import EDDSA, ES256, BadInput, Credential, Refused, RowDamaged, Server, SignedIn, _passkey, forms, server, signatures
 
 USER, ORIGIN = b"account 7", "https://example.com"
 CRED_PROTECT = b"\xa1\x6bcredProtect\x02"
@@ -49,7 +49,7 @@ class Ceremony:
 def ended(call):
     try:
         return call()
-    except (Refused, BadInput, TypeError, ValueError, OverflowError, IndexError, SystemError, Broken) as error:
+    except (Refused, BadInput, RowDamaged, TypeError, ValueError, OverflowError, IndexError, SystemError, Broken) as error:
         return error
 
 

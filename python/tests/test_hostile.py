@@ -11,7 +11,7 @@ import pytest
 from device import Device
 from hostile import changes, nested, passed_over
 
-from garvoeng import BadInput, Credential, Refused, Server, StoredServer, StoreFailed
+from garvoeng import BadInput, Credential, Refused, RowDamaged, Server, StoredServer, StoreFailed
 from garvoeng.forms import from_text, to_text
 
 USER = b"account 7"
@@ -231,7 +231,7 @@ def test_limits():
     response = device.sign_in(options, user=USER)
     for algorithm, count in ((-7, -1), (-7, 2**32), (-7, 2**32 + 5), (2**32 - 7, 0), (-9, 0), (0, 0)):
         wrong = Credential(device.id, USER, algorithm, device.x, device.y, count, None)
-        with pytest.raises(BadInput):
+        with pytest.raises(RowDamaged):
             server.authenticate_complete(session, response, credential=lambda _: wrong)
     last = Credential(device.id, USER, -7, device.x, device.y, 2**32 - 1, None)
     with pytest.raises(Refused) as caught:

@@ -1,11 +1,13 @@
 """`KeepingServer` over stores that answer what is no answer, that fail, and that change between the verdict and the write."""
 import threading
+from dataclasses import replace
 
 import pytest
 from device import Device
 from test_storages import USER, Visit
 
-from garvoeng import BadInput, Credential, KeepingServer, KeptCredential, MemoryStore, OpenSession, Refused, Server, SessionDamaged
+from garvoeng import BadInput, Credential, KeepingServer, KeptCredential, MemoryStore, OpenSession, Refused, RowDamaged, Server, SessionDamaged
+from garvoeng.forms import to_text
 
 PARTY = "example.com", ["https://example.com"]
 
@@ -143,6 +145,33 @@ def test_sessions_of_a_careless_store(visit, store):
     assert asked == []
     store.by = {}
     assert visit.server.authenticate_complete(session, good)
+
+
+@pytest.mark.parametrize("change", [
+    {"x": b"x"}, {"y": "text"}, {"algorithm": 5}, {"sign_count": -1}, {"sign_count": 2**32}, {"sign_count": "7"}, {"user": b""}, {"user": "text"}, {"retired": None},
+    {"retired": 0}, {"eligible": "no"}, {"transports": 5}, {"aaguid": b"short"}, {"backed_up": 2}, {"created_at": -1}, {"used_at": "now"}], ids=str)
+def test_rows_that_are_damaged(visit, store, change, caplog):
+    """Named, where exactly that one is asked for, and left out of each list; logged both times. The account's others go on."""
+    broken, whole = Device(credential=b"broken"), Device(credential=b"whole")
+    for device in (broken, whole):
+        visit.registers(device)
+    row = store.row(b"broken")
+    store.by = {"row": lambda id: replace(row, **change) if id == b"broken" else MemoryStore.row(store, id),
+                "rows": lambda user: [replace(one, **change) if one.id == b"broken" else one for one in MemoryStore.rows(store, user)]}
+    server = visit.server
+    for listed in (server.rows(), server.rows(USER)):
+        assert [one.id for one in listed] == [b"whole"]
+    for options, name in ((server.register_begin(USER, "name")[0], "excludeCredentials"), (server.authenticate_begin(user=USER)[0], "allowCredentials")):
+        assert [one["id"] for one in options[name]] == [to_text(b"whole")]
+    assert set(caplog.messages) == {caplog.messages[0]} and f"credential {to_text(b'broken')} is damaged" in caplog.messages[0]
+    options, session = server.authenticate_begin()
+    caplog.clear()
+    with pytest.raises(RowDamaged) as caught:
+        server.authenticate_complete(session, broken.sign_in(options, user=USER))
+    assert caught.value.id == b"broken" and caplog.messages == [str(caught.value)]
+    assert server.authenticate_complete(session, whole.sign_in(options, user=USER)).credential.id == b"whole"
+    begun, other = server.register_begin(b"other", "name")
+    assert visit.refused(server.register_complete, other, Device(credential=b"broken").register(begun)) == "G15"
 
 
 def test_sessions_that_have_ended_go(store, monkeypatch):

@@ -4,13 +4,14 @@ import pickle
 import threading
 import time
 from concurrent.futures import ThreadPoolExecutor
+from dataclasses import replace
 
 import pytest
 from device import Device
 from test_options import slips
 from test_sql import OTHER, USER, begun, connect, outcome, refusal, registered, rows_of, run, site
 
-from garvoeng import BadInput, Refused, RowDamaged, Server, SessionDamaged, sql
+from garvoeng import BadInput, Credential, Refused, RowDamaged, Server, SessionDamaged, sql
 from garvoeng.forms import to_text
 from garvoeng.sql import SqlServer
 
@@ -47,7 +48,7 @@ def test_sessions_that_are_damaged(site, connect, caplog):
 
 
 DAMAGED = ["public_key = {bytes}", "public_key = user_handle", "sign_count = -1", "sign_count = 4294967296", "retired = 2", "backup_eligible = 7",
-           "backed_up = -1", "created_at = -1", "used_at = -5"]
+           "backed_up = -1", "created_at = -1", "used_at = -5", "aaguid = public_key", "aaguid = {bytes}"]
 DAMAGED_SQLITE = ["sign_count = 'text'", "sign_count = 1.5", "sign_count = x'00'", "user_handle = 'text'", "user_handle = 5", "public_key = 'text'",
                   "transports = x'00'", "aaguid = 'text'", "created_at = 'x'", "retired = 'x'", "user_handle = x''"]
 
@@ -219,6 +220,19 @@ def test_slips_of_a_site(site):
         for wrong in ("text", 5, [1]):
             with pytest.raises(TypeError, match="user is bytes"):
                 call(wrong)
+    for call, name in ((lambda: site.keep_sign_in(USER, lifetime=True), "lifetime"), (lambda: site.keep_sign_in(USER, lifetime="5"), "lifetime"),
+                       (lambda: site.signed_in("0" * 32, fresh="5"), "fresh"), (lambda: site.signed_in(None, fresh=True), "fresh")):
+        with pytest.raises(TypeError, match=f"{name} is"):
+            call()
+    for call in (lambda: site.keep_sign_in(USER, lifetime=-5), lambda: site.signed_in(None, fresh=0)):
+        with pytest.raises(BadInput, match="is 1 second or more"):
+            call()
+    stored = Credential(b"id", USER, -7, bytes(32), bytes(32), 0, None)
+    for wrong, how in ((stored, {"aaguid": b"short"}), (stored, {"backed_up": 1}), (replace(stored, sign_count=-1), {}), (replace(stored, user=b""), {}),
+                       (replace(stored, retired=None), {}), (replace(stored, transports=["a,b"]), {}), (replace(stored, id=b""), {})):
+        with pytest.raises(BadInput):
+            site.add(wrong, **how)
+    assert site.rows() == []
     with site.transaction() as rows:
         assert rows.run("select count(*) from garvoeng_session").fetchone() == before
     for words in ((None, site.connect), (site.server, "file"), ("x", None)):

@@ -1,4 +1,5 @@
 """Registrations and sign-ins by `Server`: accepted, and refused at each step."""
+import asyncio
 import pickle
 import random
 from dataclasses import FrozenInstanceError, replace
@@ -7,7 +8,7 @@ from hashlib import sha256
 import pytest
 from device import AT, BE, BS, ED, UP, UV, Device, changed
 
-from garvoeng import (EDDSA, ES256, RS256, BadInput, Credential, Refused, Registered, RegistrationSession, Server, SignedIn,
+from garvoeng import (EDDSA, ES256, RS256, BadInput, Credential, Refused, Registered, RegistrationSession, RowDamaged, Server, SignedIn,
                       SignInSession, _passkey, is_canonical, library, signatures)
 from garvoeng.forms import to_text
 
@@ -424,6 +425,31 @@ def test_input(server):
     for other in ([], [-258], [-7, 7], [-7.0], [True], [None], [[]]):
         with pytest.raises(BadInput):
             server.register_begin(USER, "name", algorithms=other)
+
+
+DAMAGED = [{"algorithm": -9}, {"algorithm": "-7"}, {"x": b"short"}, {"x": "text"}, {"y": b""}, {"sign_count": -1}, {"sign_count": 2**32}, {"sign_count": "7"},
+           {"retired": None}, {"retired": "false"}, {"eligible": "true"}, {"user": "text"}, {"id": None}]
+
+
+@pytest.mark.parametrize("change", DAMAGED, ids=str)
+def test_a_damaged_row_is_the_sites(server, change):
+    """It is told by the id that the site asked for, and is no fault of the visitor's."""
+    device = Device()
+    options, session = server.register_begin(USER, "name")
+    stored = server.register_complete(session, device.register(options), is_registered=free).credential
+    options, session = server.authenticate_begin()
+    response = device.sign_in(options, user=USER)
+    found = replace(stored, **change)
+    for complete in (lambda: server.authenticate_complete(session, response, credential=lambda _: found),
+                     lambda: asyncio.run(server.authenticate_complete_async(session, response, credential=lambda _: found))):
+        with pytest.raises(RowDamaged) as caught:
+            complete()
+        assert caught.value.id == found.id
+    # A whole row takes no blame.
+    with pytest.raises(BadInput):
+        server.authenticate_complete(replace(session, challenge=b"short"), response, credential=lambda _: stored)
+    with pytest.raises(TypeError, match="verify answered"):
+        Server("example.com", ["https://example.com"], verify=lambda *_: 1).authenticate_complete(session, response, credential=lambda _: stored)
 
 
 def test_small():
