@@ -7,13 +7,13 @@ import sqlite3
 import tempfile
 from contextlib import closing, contextmanager
 from pathlib import Path
-from typing import Any, BinaryIO, Callable, Iterator, List, Sequence
+from typing import Any, BinaryIO, Callable, Iterator, List, Sequence, Tuple
 
 from . import limits
 from .errors import BadInput, Refused
 from .forms import transports_in
 from .records import KeptCredential
-from .sql import SqlServer
+from .sql import Rows, SqlServer
 
 VERSION = 4
 """The version of the file's tables that is read and written here (docs/SITE.md)."""
@@ -63,7 +63,8 @@ def _kept(row: Sequence[Any]) -> KeptCredential:
     if transports_in(list(known)) != known:
         raise BadInput("transports are none")
     return KeptCredential(limits.check_id(identity, "id"), limits.check_user(user), algorithm, x, y or b"", count,
-                          None if eligible is None else bool(eligible), bool(retired), known, aaguid, None, created, used)
+                          None if eligible is None else bool(eligible), bool(retired), known, None if aaguid is None else limits.check_aaguid(aaguid),
+                          None, created, used)
 
 
 def _copied(file: Path, folder: str) -> Path:
@@ -81,7 +82,8 @@ def rows_of(file: str, told: Callable[[str], None]) -> Iterator[KeptCredential]:
     """The credentials of a site's file, in order of registration, read from a copy. A row that is no credential is reported by its place,
     and left out. Raises `BadInput` if the file is in use, has another version, or is damaged."""
     with tempfile.TemporaryDirectory() as folder:
-        copy = _copied(Path(file), folder)
+        # The log stands beside the file that a link leads to.
+        copy = _copied(Path(file).resolve(), folder)
         with closing(sqlite3.connect(copy)) as site:
             _checked(site, Path(file))
             if [row[0] for row in site.execute("pragma integrity_check")] != ["ok"]:
@@ -141,13 +143,19 @@ def _written(site: sqlite3.Connection, one: KeptCredential) -> bool:
     return True
 
 
+def _tabled(rows: Rows) -> Tuple[List[KeptCredential], int]:
+    """The tables' credentials, and how many rows are damaged, of which the logger `garvoeng` has the ids."""
+    kept = rows.credentials(None)
+    return kept, int(rows.run("select count(*) from garvoeng_credential").fetchone()[0]) - len(kept)
+
+
 def to_file(server: SqlServer, file: str, told: Callable[[str], None]) -> bool:
-    """Moves the tables' credentials into a site's file that `passkey-site --no-sums` has made and no process has, in one transaction. One
-    that is there already is left as it is."""
+    """Moves the tables' credentials into a site's file that `passkey-site --no-sums` has made and no process has, in one transaction;
+    whether each is there then. One that is there already is left as it is."""
     path = Path(file)
     with _held(path) as opened:
         header = opened.read(_RESERVED + 1)
-    kept = server.rows()
+    kept, damaged = server.within(_tabled, writes=False)
     with closing(sqlite3.connect(path, timeout=0, isolation_level=None)) as site:
         try:
             site.execute("begin exclusive")
@@ -160,5 +168,5 @@ def to_file(server: SqlServer, file: str, told: Callable[[str], None]) -> bool:
             raise BadInput(f"{file} has sums of its pages, which SQLite does not write: make it by passkey-site --no-sums")
         moved = sum(_written(site, one) for one in kept)
         site.execute("commit")
-    told(f"{moved} moved, {len(kept) - moved} there already, 0 not moved")
-    return True
+    told(f"{moved} moved, {len(kept) - moved} there already, {damaged} not moved")
+    return damaged == 0

@@ -11,6 +11,7 @@ from device import EDDSA, ES256, RS256, Device
 from test_stored import ORIGIN, PROGRAM, USER, refusal, registers, rows, stored
 
 from garvoeng import BadInput, move_site
+from garvoeng.forms import to_text
 
 pytest.importorskip("fcntl")
 
@@ -98,6 +99,19 @@ def test_a_log_is_read_too(tmp_path, keys):
     assert bytes_of(tmp_path) == held
 
 
+def test_through_a_link(tmp_path, keys):
+    """The log stands beside the file that a link leads to."""
+    site = stored(tmp_path)
+    registers(site, Device(credential=b"in the log alone"))
+    site._process._kill()
+    site._process._waited(10)
+    links = tmp_path / "links"
+    links.mkdir()
+    (links / "site.db").symlink_to("again.db")
+    (links / "again.db").symlink_to(tmp_path / "site.db")
+    assert ran("site", links / "site.db", tmp_path / "site.sqlite") == (0, "4 moved, 0 there already, 0 not moved\n")
+
+
 LOCKS = "import fcntl, sys; fcntl.lockf(open(sys.argv[1], 'r+b'), fcntl.LOCK_EX | fcntl.LOCK_NB, 512, 0x40000000)"
 
 
@@ -175,6 +189,22 @@ def test_a_damaged_row(tmp_path, keys):
     said = []
     assert not move_site.to_database(str(tmp_path / "site.db"), rows(tmp_path), said.append)
     assert said[0].startswith("place 2: ")
+
+
+def test_a_damaged_row_of_the_tables(tmp_path, keys):
+    """It is counted, and its id is told; the others are moved."""
+    assert ran("site", tmp_path / "site.db", tmp_path / "site.sqlite")[0] == 0
+    with closing(sqlite3.connect(tmp_path / "site.sqlite")) as tables:
+        tables.execute("update garvoeng_credential set sign_count = -1 where id = ?", [keys[1].id])
+        tables.commit()
+    made(tmp_path / "new.db", "--no-sums")
+    status, said = ran("to-site", tmp_path / "site.sqlite", tmp_path / "new.db")
+    assert status == 1 and said.startswith("2 moved, 0 there already, 1 not moved\n") and f"credential {to_text(keys[1].id)} is damaged" in said
+    with closing(sqlite3.connect(tmp_path / "site.db")) as site:
+        site.execute("update detail set aaguid = x'0102' where place = 1")
+        site.commit()
+    said = []
+    assert [one.id for one in move_site.rows_of(str(tmp_path / "site.db"), said.append)] == [keys[1].id, keys[2].id] and said == ["place 1: aaguid is not of 16 bytes"]
 
 
 def test_many(tmp_path, keys, monkeypatch):
