@@ -142,11 +142,11 @@ export function checkParty(rpId, origins) {
   return Object.freeze(listed);
 }
 
-/** The origins of the pages that may have the site's in a frame (WebAuthn Level 3, section 5.8.1, `topOrigin`). */
-export function checkTopOrigins(topOrigins) {
-  if (!Array.isArray(topOrigins)) throw new BadInput(`topOrigins is ${shown(topOrigins)}: write a list of texts, as ["https://example.com"]`);
-  topOrigins.forEach(hostOf);
-  return Object.freeze([...topOrigins]);
+/** Origins of other pages than the site's: those of `topOrigins` may have it in a frame (WebAuthn Level 3, section 5.8.1, `topOrigin`). */
+export function checkOrigins(value, what) {
+  if (!Array.isArray(value)) throw new BadInput(`${what} is ${shown(value)}: write a list of texts, as ["https://example.com"]`);
+  value.forEach(hostOf);
+  return Object.freeze([...value]);
 }
 
 /** A copy of bytes, which the host can change no more. */

@@ -2,7 +2,7 @@
 // PublicKeyCredentialRequestOptionsJSON (WebAuthn Level 3, section 5.1).
 import { BadInput } from "./errors.js";
 import { descriptor, toText } from "./forms.js";
-import { PROFILES, checkFlag, checkFunction, checkOneOf, checkText, checkTopOrigins, checkWhole, optionsIn, ownOf, shown } from "./limits.js";
+import { PROFILES, checkFlag, checkFunction, checkOneOf, checkOrigins, checkText, checkWhole, optionsIn, ownOf, shown } from "./limits.js";
 
 const REQUIREMENTS = [true, false, "required", "preferred", "discouraged"];
 const ATTACHMENTS = ["platform", "cross-platform"];
@@ -17,9 +17,10 @@ const PARTY = ["rpName", "acceptNone", "acceptSelf", "profile", "topOrigins", "v
 export function partyOptionsIn(options, call, { rpId, isValid, more = [] }) {
   const own = optionsIn(options, call, [...PARTY, ...more]);
   const { rpName = rpId, acceptNone = true, acceptSelf = true, profile = "level3", topOrigins = [], verify = isValid } = own;
+  if (acceptNone === false && acceptSelf === false) throw new BadInput("acceptNone and acceptSelf are both false: then no attestation is accepted");
   return Object.assign(own, {
     rpName: checkText(rpName, "rpName"), acceptNone: checkFlag(acceptNone, "acceptNone"), acceptSelf: checkFlag(acceptSelf, "acceptSelf"),
-    profile: checkOneOf(profile, "profile", PROFILES), topOrigins: checkTopOrigins(topOrigins),
+    profile: checkOneOf(profile, "profile", PROFILES), topOrigins: checkOrigins(topOrigins, "topOrigins"),
     verify: checkFunction(verify, "verify", "(algorithm, x, y, message, signature) => true or false"),
   });
 }

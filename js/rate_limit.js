@@ -1,6 +1,6 @@
 // How often a visitor may ask, by the address that asks.
 import { BadInput } from "./errors.js";
-import { shown } from "./limits.js";
+import { checkFunction, optionsIn, shown } from "./limits.js";
 
 // An address of IPv6 as its eight groups of hexadecimal digits; null of what is none.
 function groupsOf(text) {
@@ -32,11 +32,13 @@ export class RateLimit {
   #had = new Map();
   #clock;
 
-  constructor({ rate = 5, burst = 50, addresses = 10_000, clock = () => performance.now() } = {}) {
+  constructor(options) {
+    const { rate = 5, burst = 50, addresses = 10_000, clock = () => performance.now() } = optionsIn(options, "RateLimit", ["rate", "burst", "addresses", "clock"]);
     for (const [name, value] of Object.entries({ rate, burst, addresses }))
       if (typeof value !== "number" || !(value > 0 && value < Infinity)) throw new BadInput(`${name} is ${shown(value)}: write a number above 0`);
+    if (burst < 1) throw new BadInput(`burst is ${shown(burst)}: write 1 or more, since each request takes one`);
     Object.assign(this, { rate, burst, addresses });
-    this.#clock = clock;
+    this.#clock = checkFunction(clock, "clock", "() => performance.now()");
   }
 
   /** Counts a request: the seconds after which the address may ask again, 0 where it may ask now. */

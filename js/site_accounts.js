@@ -47,6 +47,23 @@ export function functionOf(accounts, name) {
   return found === null ? null : (...words) => found.apply(accounts, words);
 }
 
+// The names of what a value has, itself or by its class.
+function namesIn(value) {
+  const names = [];
+  for (let one = value; one !== null && Object.getPrototypeOf(one) !== null; one = Object.getPrototypeOf(one)) names.push(...Object.getOwnPropertyNames(one));
+  return names.filter((name) => name !== "constructor");
+}
+
+/** What has the site's functions, or null. Of what has others alone, as a class or a slip, nothing would be asked, and everybody might register. */
+export function checkAccounts(accounts) {
+  if (accounts === null) return null;
+  if (!["object", "function"].includes(typeof accounts) || Array.isArray(accounts)) throw new TypeError(`accounts is ${shown(accounts)}, and no object with functions`);
+  const has = FUNCTIONS.map((name) => functionOf(accounts, name)).some((one) => one !== null), names = namesIn(accounts);
+  if (!has && names.length > 0 && !names.some((name) => FUNCTIONS.includes(name)))
+    throw new TypeError(`accounts has none of ${FUNCTIONS.join(", ")}${typeof accounts === "function" ? `: of a class write new ${accounts.name}()` : ""}`);
+  return accounts;
+}
+
 /** Who the site says is signed in, or null. */
 export function visitorIn(said) {
   if (said === undefined || said === null) return null;

@@ -1,9 +1,9 @@
 // The requests of a site with passkeys, in no framework: JSON and cookies in, JSON and cookies out. Python's `garvoeng.web` is the same.
 import { BadInput } from "./errors.js";
-import { SIGNED_IN_FOR, checkFunction, checkWhole, isBytes, optionsIn, ownOf, shown } from "./limits.js";
+import { SIGNED_IN_FOR, checkFunction, checkOrigins, checkWhole, isBytes, optionsIn, ownOf, shown } from "./limits.js";
 import { RateLimit } from "./rate_limit.js";
 import { serverOver } from "./server.js";
-import { FUNCTIONS, functionOf } from "./site_accounts.js";
+import { checkAccounts } from "./site_accounts.js";
 import { METHODS, Visit } from "./site_acts.js";
 import { MODELS } from "./site_models.js";
 import { CALLS, memoryOver } from "./site_stores.js";
@@ -46,11 +46,6 @@ function checkServer(server) {
   return server;
 }
 
-function checkOrigins(value) {
-  if (!Array.isArray(value) || !value.every((one) => typeof one === "string")) throw new BadInput(`trustedOrigins is ${shown(value)}: write a list of texts, as ["https://example.com"]`);
-  return value;
-}
-
 /** The acts over a server and a site's accounts, by the WebCrypto of a platform. */
 export class Core {
   #limit;
@@ -60,9 +55,7 @@ export class Core {
     const { fresh = 300, lifetime = SIGNED_IN_FOR, timeout = 30_000, base = "/passkeys", translate = String, logger = console.error } = own;
     this.crypto = crypto;
     this.server = checkServer(server);
-    if (accounts !== null && !["object", "function"].includes(typeof accounts)) throw new TypeError(`accounts is ${shown(accounts)}, and no object with functions`);
-    for (const name of FUNCTIONS) functionOf(accounts, name);
-    this.accounts = accounts;
+    this.accounts = checkAccounts(accounts);
     this.store = own.store ?? server.webStore ?? new (memoryOver((size) => crypto.getRandomValues(new Uint8Array(size))))();
     for (const name of CALLS) checkFunction(this.store[name], `the store's ${name}`, "that of MemoryWebStore");
     this.secret = secret === undefined ? null : secretOf(secret);
@@ -72,7 +65,7 @@ export class Core {
     this.timeout = checkWhole(timeout, "timeout, in milliseconds,", 1, 0x7fffffff);
     this.#limit = rateLimit === false ? { wait: () => 0 } : rateLimit;
     checkFunction(this.#limit?.wait, "rateLimit.wait", "(address) => seconds");
-    this.trusted = [...server.origins, ...checkOrigins(trustedOrigins)];
+    this.trusted = [...server.origins, ...checkOrigins(trustedOrigins, "trustedOrigins")];
     this.isSecure = server.origins.some((origin) => origin.startsWith("https://"));
     this.policy = policyOf(server.topOrigins ?? []);
     this.registration = howOf(own.registration, "registration", "registerBegin", new Uint8Array(1), "0");

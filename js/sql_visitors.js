@@ -4,7 +4,7 @@ import { randomBytes } from "node:crypto";
 import { BadInput } from "./errors.js";
 import { fromText, toText } from "./forms.js";
 import { isNumber, now } from "./keeping.js";
-import { SIGNED_IN_FOR, isBytes, ownOf } from "./limits.js";
+import { SIGNED_IN_FOR, checkFlag, isBytes, optionsIn, ownOf } from "./limits.js";
 
 // Sessions that have ended go at a begin, so many at a time, and no begin waits for another's.
 const EXPIRED = `delete from garvoeng_session where id in (
@@ -87,10 +87,11 @@ export class SqlWebStore {
   #server;
   #secret = null;
 
-  constructor(server, { looksUp = false } = {}) {
+  constructor(server, options) {
+    const { looksUp = false } = optionsIn(options, "SqlWebStore", ["looksUp"]);
     if (typeof server?.within !== "function") throw new BadInput("a SqlWebStore is over a SqlServer: write new SqlWebStore(new SqlServer(new Server(..), pool))");
     this.#server = server;
-    this.looksUp = looksUp === true;
+    this.looksUp = checkFlag(looksUp, "looksUp");
   }
 
   async #made(query) {

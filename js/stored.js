@@ -18,6 +18,8 @@ import { ProgramOfPrimary, serveWorkers } from "./workers.js";
 
 const LOGS = [false, true, "refusals", "all"];
 
+// The most credentials, and seconds of a session.
+const MOST = 1_000_000;
 const OWN = ["maxCredentials", "existing", "atLeast", "wary", "log", "lifetime", "timeout", "logger"];
 // The flag BE: a sign-in whose flag is another than the row's is refused by W16.
 const ELIGIBLE = 0x08;
@@ -27,20 +29,19 @@ function textOf(value, what) {
   return value;
 }
 
-function numbered(option, value, what, least) {
-  return value === undefined ? [] : [`--${option}=${checkWhole(value, what, least)}`];
+function numbered(option, value, what, least, most) {
+  return value === undefined ? [] : [`--${option}=${checkWhole(value, what, least, most)}`];
 }
 
 function wordsOf(program, file, rpId, origins, how) {
   const { rpName, acceptNone, acceptSelf, profile, topOrigins, maxCredentials, existing = false, atLeast, wary = false, log = false, lifetime } = how;
-  if (!acceptNone && !acceptSelf) throw new BadInput("acceptNone and acceptSelf are both false: then no attestation is accepted");
   checkOneOf(log, "log", LOGS);
   return [
     textOf(program, "the program's path"), `--rp-id=${rpId}`, `--rp-name=${textOf(rpName, "rpName")}`, ...origins.map((origin) => `--origin=${origin}`),
     ...topOrigins.map((origin) => `--top-origin=${origin}`), `--profile=${profile}`, `--attestation=${acceptNone && acceptSelf ? "any" : acceptNone ? "none" : "self"}`,
-    ...numbered("max-credentials", maxCredentials, "maxCredentials", 1),
+    ...numbered("max-credentials", maxCredentials, "maxCredentials", 1, MOST),
     ...(checkFlag(existing, "existing") ? ["--existing"] : []), ...numbered("at-least", atLeast, "atLeast", 0), ...(checkFlag(wary, "wary") ? ["--wary"] : []),
-    ...(log === false ? [] : [`--log=${log === true ? "refusals" : log}`]), ...numbered("expire", lifetime, "lifetime", 1), "--", textOf(file, "the file's path"),
+    ...(log === false ? [] : [`--log=${log === true ? "refusals" : log}`]), ...numbered("expire", lifetime, "lifetime, in seconds,", 1, MOST), "--", textOf(file, "the file's path"),
   ];
 }
 
@@ -91,7 +92,7 @@ export class StoredServer {
     this.topOrigins = how.topOrigins;
     this.#known = atLeast;
     this.#mostListed = profile === "strict" ? MAX_STRICT_LIST : MAX_LIST;
-    checkWhole(timeout, "timeout, in milliseconds,", 1);
+    checkWhole(timeout, "timeout, in milliseconds,", 1, 0x7fffffff);
     checkFunction(logger, "logger", "(line) => console.error(line)");
     const key = JSON.stringify(words);
     if (cluster.isWorker) {

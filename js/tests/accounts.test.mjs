@@ -232,7 +232,16 @@ test("functions are functions, with their object", async () => {
     for (const value of [5, "x", {}, [], true]) assert.throws(() => passkeys(memory(), { accounts: { [name]: value } }), { name: "TypeError", message: new RegExp(`^${name} of the accounts is a function, and not `) });
     assert.throws(() => passkeys(memory(), { accounts: { get [name]() { return boom(); } } }), RangeError);
   }
-  for (const accounts of [5, "x", true, Symbol("a")]) assert.throws(() => passkeys(memory(), { accounts }), TypeError);
+  class Misspelt {
+    mayRegistr() {}
+  }
+  class Whole {
+    mayRegister() {}
+  }
+  for (const accounts of [Whole, new Misspelt(), { mayRegistr: () => false }, { may_register: () => false }, new Map(), () => false])
+    assert.throws(() => passkeys(memory(), { accounts }), { name: "TypeError", message: /^accounts has none of userOf, / });
+  for (const accounts of [new Whole(), { mayRegister: () => true, own: 5 }, { userOf: undefined }, {}]) passkeys(memory(), { accounts });
+  for (const accounts of [5, "x", true, Symbol("a"), []]) assert.throws(() => passkeys(memory(), { accounts }), TypeError);
   class Site {
     #known = Buffer.from("account 7");
     userOf() {

@@ -104,7 +104,7 @@ test("the limit of requests: tokens by address", () => {
   assert.deepEqual(waits("2001:db8:0:2::", "2001:db8::2:0:0:0:1", "2001:db8:0:2:ffff:ffff:ffff:ffff", "2001:DB8:0:2::7"), [0, 0, 0, 1]);
   for (const own of ["127.0.0.1", "127.1.2.3", "::1", "0:0:0:0:0:0:0:1", "::ffff:127.0.0.1", "::ffff:7f00:1", "", undefined, null]) assert.deepEqual(new Set(times(20, own)), new Set([0]), String(own));
   for (const word of ["visitor 7", "127.0.0.1.example", "::1]", "x@[::1", ":", "1:2", "7%7"]) assert.deepEqual(times(4, word), [0, 0, 0, 1], "a host's own word");
-  for (const wrong of [{ rate: 0 }, { burst: -1 }, { rate: "3" }, { addresses: 0 }, { rate: NaN }, { rate: Infinity }, { burst: null }])
+  for (const wrong of [{ rate: 0 }, { burst: -1 }, { rate: "3" }, { addresses: 0 }, { rate: NaN }, { rate: Infinity }, { burst: null }, { burst: 0.5 }, { rates: 5 }, { clock: 5 }, null, 5, []])
     assert.throws(() => new RateLimit(wrong), BadInput, JSON.stringify(wrong));
 });
 

@@ -8,6 +8,7 @@ import { fileURLToPath } from "node:url";
 import { runInNewContext } from "node:vm";
 import * as own from "garvoeng";
 import { passkeys } from "garvoeng/http";
+import { RateLimit } from "garvoeng/site";
 import { SqlServer, SqlWebStore } from "garvoeng/sql";
 import { Device } from "./device.mjs";
 
@@ -202,11 +203,17 @@ test("an error says what to write", async () => {
     [() => new Server("example.com", origins, { profile: "level4" }), /^profile is "level4": write "strict", "open" or "level3"$/],
     [() => new StoredServer("p", "f", "example.com", origins, { acceptNone: false, acceptSelf: false }), /^acceptNone and acceptSelf are both false/],
     [() => new StoredServer("p", undefined, "example.com", origins), /^the file's path is undefined: write a text$/],
-    [() => new StoredServer("p", "f", "example.com", origins, { lifetime: "300" }), /^lifetime is "300": write a whole number from 1 on$/],
+    [() => new StoredServer("p", "f", "example.com", origins, { lifetime: "300" }), /^lifetime, in seconds, is "300": write a whole number from 1 to 1000000$/],
     [() => new SqlServer(pool, server), /^a SqlServer is over a Server: write new SqlServer\(new Server\(\.\.\), pool\)$/],
     [() => new SqlServer(server, "postgresql://"), /^a SqlServer is over a pool of pg/], [() => sql.abandon(7), /^session is 7: write the text that the begin gave, or null$/],
     [() => passkeys(stored, { secret: "short" }), /^secret is too short: write 32 random characters or more$/], [() => passkeys(stored, { secret: null }), /^secret is null: write 32/],
     [() => passkeys(stored).signedIn(new Request("https://example.com")), /^the request is one of fetch: passkeys of garvoeng\/site takes it$/], [() => passkeys(stored).signedIn(), /^the request is undefined: hand in that of the framework$/],
+    [() => passkeys(stored, { trustedOrigins: ["https://shop.example/"] }), /^'https:\/\/shop.example\/' is not an origin/], [() => passkeys(stored, { trustedOrigins: "*" }), /^trustedOrigins is "\*"/],
+    [() => new SqlWebStore(sql, { looksup: true }), /^SqlWebStore has no option "looksup": write looksUp$/], [() => new SqlWebStore(sql, { looksUp: 1 }), /^looksUp is 1: write true or false$/],
+    [() => new RateLimit({ rates: 1 }), /^RateLimit has no option "rates": write rate, burst/],
+    [() => new Server("example.com", origins, { acceptNone: false, acceptSelf: false }), /^acceptNone and acceptSelf are both false/],
+    [() => new StoredServer("p", "f", "example.com", origins, { timeout: 2 ** 31 }), /^timeout, in milliseconds, is 2147483648: write a whole number from 1 to 2147483647$/],
+    [() => new StoredServer("p", "f", "example.com", origins, { maxCredentials: 1_000_001 }), /^maxCredentials is 1000001: write a whole number from 1 to 1000000$/],
     [() => passkeys(stored, { base: "passkeys/" }), /^base is "passkeys\/": write the path below which the acts stand, as "\/passkeys"$/],
     [() => passkeys(stored, { registration: { exclude: [] } }), /^exclude of registration is the core's$/], [() => new SqlWebStore(server), /^a SqlWebStore is over a SqlServer: write new SqlWebStore/],
     [() => toText("AAAA"), /^toText takes a Uint8Array, and not "AAAA": write new Uint8Array\(\.\.\) of an ArrayBuffer$/],

@@ -32,8 +32,8 @@ def limit_of(said: Union[Limit, bool, None]) -> Limit:
         return RateLimit()
     if said is False:
         return lambda _: 0
-    if not callable(said):
-        raise BadInput(f"rate_limit is a RateLimit, or False for none: not {said!r}")
+    if not callable(said) or isinstance(said, type):
+        raise BadInput(f"rate_limit is a RateLimit(), or False for none: not {said!r}")
     return said
 
 

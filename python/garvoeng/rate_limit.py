@@ -21,6 +21,8 @@ class RateLimit:
         for value, what in ((rate, "rate"), (burst, "burst"), (addresses, "addresses")):
             if isinstance(value, bool) or not isinstance(value, (int, float)) or not 0 < value < math.inf:
                 raise BadInput(f"{what} is a number above 0: not {value!r}")
+        if burst < 1:
+            raise BadInput(f"burst is 1 or more, since each request takes one: not {burst!r}")
         self.rate, self.burst, self.addresses = rate, burst, addresses
         self._clock = clock
         self._lock = threading.Lock()

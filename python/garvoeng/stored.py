@@ -5,6 +5,7 @@ from __future__ import annotations
 import itertools
 import json
 import logging
+import math
 import os
 import subprocess
 import threading
@@ -243,13 +244,19 @@ class StoredServer:
         limits.check_attestation(accept_none, accept_self)
         for flag, what in ((existing, "existing"), (wary, "wary"), (shared, "shared")):
             limits.check_flag(flag, what)
-        if log not in (False, True, "refusals", "all"):
+        if log is not True and log is not False and log not in ("refusals", "all"):
             raise BadInput(f"log is True, False, \"refusals\" or \"all\": not {log!r}")
+        program, file = limits.check_path(program, "program"), limits.check_path(file, "file")
+        limits.check_whole(max_credentials, "max_credentials", 1, 1_000_000)
+        limits.check_whole(limits.check_lifetime(lifetime), "lifetime", 1, 1_000_000)
+        limits.check_whole(at_least, "at_least", 0)
+        if isinstance(timeout, bool) or not isinstance(timeout, (int, float)) or not 0 < timeout < math.inf:
+            raise BadInput(f"timeout is a number of seconds above 0: not {timeout!r}")
         limits.check_text(rp_id if rp_name is None else rp_name, "rp_name")
         attestation = "any" if accept_none and accept_self else "none" if accept_none else "self"
         self._words = [program, f"--rp-id={rp_id}", f"--rp-name={rp_id if rp_name is None else rp_name}",
                        "--profile", profile, "--attestation", attestation,
-                       f"--max-credentials={max_credentials}", f"--expire={limits.check_lifetime(lifetime)}",
+                       f"--max-credentials={max_credentials}", f"--expire={lifetime}",
                        *(f"--origin={origin}" for origin in self.origins),
                        *(f"--top-origin={origin}" for origin in self.top_origins),
                        *(["--existing"] if existing else []),

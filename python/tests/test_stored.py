@@ -355,7 +355,20 @@ def test_slips_of_a_site(site):
     for how in ({"existing": 1}, {"wary": None}, {"shared": "yes"}, {"rp_name": 5}, {"accept_none": 0}, {"verify": 7}):
         with pytest.raises(TypeError, match=list(how)[0]):
             StoredServer("program", "file", "example.com", [ORIGIN], **how)
-    for how, told in (({"accept_none": False, "accept_self": False}, "both False"), ({"log": "some"}, "log is True, False")):
+    # With None or an empty text no copy would be refused.
+    for how in ({"at_least": None}, {"at_least": ""}, {"at_least": False}, {"at_least": "7"}, {"at_least": 1.5}, {"max_credentials": "5"}, {"max_credentials": True}):
+        with pytest.raises(TypeError, match=f"{list(how)[0]} is a whole number"):
+            StoredServer("program", "file", "example.com", [ORIGIN], **how)
+    for words, told in ((("", "file"), "program is the path"), (("program", ""), "file is the path"), (("program", "a\0b"), "file is the path")):
+        with pytest.raises(BadInput, match=told):
+            StoredServer(*words, "example.com", [ORIGIN])
+    for words, told in (((None, "file"), "program is a str"), (("program", b"file"), "file is a str"), (("program", 5), "file is a str")):
+        with pytest.raises(TypeError, match=told):
+            StoredServer(*words, "example.com", [ORIGIN])
+    for how, told in (({"accept_none": False, "accept_self": False}, "both False"), ({"log": "some"}, "log is True, False"), ({"log": 1}, "log is True, False"),
+                      ({"at_least": -1}, "at_least is"), ({"max_credentials": 0}, "max_credentials is"), ({"max_credentials": 1_000_001}, "max_credentials is"),
+                      ({"timeout": 0}, "timeout is"), ({"timeout": -1}, "timeout is"), ({"timeout": None}, "timeout is"), ({"timeout": "30"}, "timeout is"),
+                      ({"timeout": True}, "timeout is"), ({"timeout": float("nan")}, "timeout is")):
         with pytest.raises(BadInput, match=told):
             StoredServer("program", "file", "example.com", [ORIGIN], **how)
 

@@ -414,12 +414,26 @@ def test_pages_that_have_the_page_in_a_frame(tmp_path):
 def test_what_is_out_of_its_limits(tmp_path):
     """It is told at once, and to no visitor."""
     server = memory()
-    for how in ({"registration": {"user_verification": "x"}}, {"sign_in": {"timeout": -1}}, {"fresh": 0}, {"signed_in_for": -5}, {"rate_limit": 5}, {"secret": "short"}):
+    for how in ({"registration": {"user_verification": "x"}}, {"sign_in": {"timeout": -1}}, {"fresh": 0}, {"signed_in_for": -5}, {"rate_limit": 5}, {"rate_limit": RateLimit},
+                {"secret": "short"}, {"trusted_origins": ["https://x/"]}, {"trusted_origins": ["*"]}):
         with pytest.raises(BadInput):
             Passkeys(server, **how)
-    for how in ({"registration": {"exclude": []}}, {"sign_in": {"user": b"x"}}, {"registration": {"x": 1}}, {"fresh": "5"}, {"secret": 5}, {"trusted_origins": "https://x"}):
-        with pytest.raises(TypeError):
+    for how in ({"registration": {"exclude": []}}, {"sign_in": {"user": b"x"}}, {"registration": {"x": 1}}, {"fresh": "5"}, {"secret": 5}, {"trusted_origins": "https://x"},
+                {"trusted_origins": [5]}, {"registration": []}, {"sign_in": "x"}, {"store": 5}, {"store": MemoryWebStore}, {"models": None}, {"translate": None}):
+        with pytest.raises(TypeError, match=next(iter(how)).replace("sign_in", "authenticate_begin").replace("registration", "register_begin")):
             Passkeys(server, **how)
+    # Of what has none of the functions nobody would be asked.
+    for wrong in (5, "x", {"may_register": lambda *_: False}, object(), Users, type("Misspelt", (), {"may_regster": print})()):
+        with pytest.raises(TypeError, match="^accounts "):
+            Passkeys(server, wrong)
+    for right in (None, Accounts(), type("Only", (), {"may_register": print})(), type("Static", (), {"may_register": staticmethod(print)})):
+        Passkeys(server, right)
+    for words, how in (((5,), {}), ((server,), {}), ((sqlite(tmp_path),), {"looks_up": 1})):
+        with pytest.raises(TypeError, match="SqlWebStore takes|looks_up is"):
+            SqlWebStore(*words, **how)
+    for wrong, kind in ((0, BadInput), (-1, BadInput), ("x", TypeError), (True, TypeError)):
+        with pytest.raises(kind, match="the most sign-ins"):
+            MemoryWebStore(wrong)
     for wrong in (Server("localhost", [ORIGIN]), None, object()):
         with pytest.raises(TypeError, match="keeps passkeys"):
             Passkeys(wrong)

@@ -14,6 +14,7 @@ from django.db import connections, router, transaction
 from django.utils.module_loading import import_string
 from django.utils.translation import gettext
 
+from ..limits import is_origin
 from ..pages import FRESH, Limit, limit_of
 from ..server import Server
 from ..sql import LIFETIME, Rows, SqlServer
@@ -73,8 +74,8 @@ def core() -> Passkeys:
     """The acts of the setting `GARVOENG`."""
     said = settings.GARVOENG
     accounts = import_string(said.get("accounts", "garvoeng.django.accounts.DjangoAccounts"))()
-    # Before Django 4 these are hosts, of which no scheme is known.
-    trusted = [origin for origin in settings.CSRF_TRUSTED_ORIGINS if "://" in origin and "*" not in origin]
+    # Before Django 4 these are hosts, of which no scheme is known; one may stand for many.
+    trusted = [origin for origin in settings.CSRF_TRUSTED_ORIGINS if is_origin(origin)]
     return Passkeys(server(), accounts, secret=sha256(b"garvoeng.django " + str(settings.SECRET_KEY).encode()).digest(), fresh=said.get("fresh", FRESH),
                     signed_in_for=settings.SESSION_COOKIE_AGE, rate_limit=lambda address: rate_limit()(address), trusted_origins=trusted,
                     registration=said.get("registration"), sign_in=said.get("sign_in"), models=said.get("models", MODELS), translate=gettext)

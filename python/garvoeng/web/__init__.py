@@ -23,7 +23,7 @@ from ..errors import BadInput
 from ..keeping import PasskeyServer
 from ..server import Server
 from ..sql import SIGNED_IN, SqlServer
-from .accounts import Accounts, Denied, Visitor
+from .accounts import Accounts, Denied, Visitor, check_accounts
 from .acts import PATHS, Visit
 from .driving import AT_ONCE, AWAITED, at_once
 from .models import MODELS
@@ -33,6 +33,7 @@ from .stores import MemoryWebStore, SqlWebStore, WebStore
 __all__ = ["MODELS", "Accounts", "Answer", "Denied", "MemoryWebStore", "Passkeys", "Request", "SqlWebStore", "Visitor", "WebStore", "PATHS"]
 
 _LEAST_SECRET = 32
+_CALLS = ("secret", "keep_sign_in", "signed_in", "abandon", "names", "rename", "erase")
 
 
 def _policy(top_origins: Sequence[str]) -> str:
@@ -48,6 +49,12 @@ def _store_of(server: PasskeyServer) -> WebStore:
     return MemoryWebStore()
 
 
+def _checked(store: Any) -> WebStore:
+    if isinstance(store, type) or not all(callable(getattr(store, name, None)) for name in _CALLS):
+        raise TypeError(f"store is a WebStore, as MemoryWebStore(), and not {kind_of(store)}")
+    return store  # type: ignore[no-any-return]
+
+
 def _secret(value: Union[str, bytes, None]) -> Optional[bytes]:
     if value is None:
         return None
@@ -61,6 +68,8 @@ def _secret(value: Union[str, bytes, None]) -> Optional[bytes]:
 
 def _how(how: Optional[Mapping[str, Any]], call: str, *words: Any) -> Mapping[str, Any]:
     """What a begin takes beside the account. It is tried once, so that a mistake of the site does not show at its visitors."""
+    if how is not None and not isinstance(how, Mapping):
+        raise TypeError(f"the options of {call} are a dict, as {{\"user_verification\": True}}, and not {kind_of(how)}")
     made = dict(how or {})
     for name in ("user", "exclude", "allow", "sign_in"):
         if name in made:
@@ -95,17 +104,19 @@ class Passkeys:
         if isinstance(server, Server) or not callable(getattr(server, "authenticate_complete", None)):
             raise TypeError("Passkeys takes a server that keeps passkeys, as SqlServer(Server(..), connect)")
         self.server: Any = server
-        self.accounts = accounts
-        self.store = store if store is not None else _store_of(server)
+        self.accounts = check_accounts(accounts)
+        self.store = _store_of(server) if store is None else _checked(store)
         self.secret = _secret(secret)
         self.fresh = limits.check_lifetime(fresh, "fresh")
         self.signed_in_for = limits.check_lifetime(signed_in_for, "signed_in_for")
         self.limit = pages.limit_of(rate_limit)
-        self.trusted = (*server.origins, *limits.check_list(trusted_origins, "trusted_origins", "texts, as [\"https://example.com\"]"))
+        self.trusted = (*server.origins, *limits.check_origins(trusted_origins, "trusted_origins"))
         self.is_secure = any(origin.startswith("https://") for origin in server.origins)
         self.policy = _policy(server.top_origins)
         self.registration = _how(registration, "register_begin", b"0", "0")
         self.sign_in = _how(sign_in, "authenticate_begin")
+        if not isinstance(models, Mapping) or not callable(translate):
+            raise TypeError("models is a dict of names by their aaguid, and translate a function of a text")
         self.models = models
         self.translate = translate
 

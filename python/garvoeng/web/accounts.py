@@ -92,6 +92,19 @@ def own(accounts: Any, name: str) -> Optional[Callable[..., Any]]:
     return found  # type: ignore[no-any-return]
 
 
+_FUNCTIONS = tuple(name for name in vars(Accounts) if not name.startswith("_"))
+
+
+def check_accounts(accounts: Any) -> Any:
+    """What has the site's functions, or None. Of what has none of them nothing would be asked, and everybody might register."""
+    if isinstance(accounts, type) and issubclass(accounts, Accounts):
+        raise TypeError(f"accounts is the class {accounts.__name__}, and not a value: write {accounts.__name__}()")
+    found = [own(accounts, name) for name in _FUNCTIONS]
+    if accounts is not None and not isinstance(accounts, Accounts) and not any(found):
+        raise TypeError(f"accounts has one or more of {', '.join(_FUNCTIONS)}, and {kind_of(accounts)} has none")
+    return accounts
+
+
 def is_handle(value: Any) -> bool:
     """Whether a value is a user handle."""
     return isinstance(value, (bytes, bytearray, memoryview)) and 1 <= len(value) <= MAX_USER

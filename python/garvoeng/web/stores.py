@@ -8,6 +8,8 @@ import time
 from collections import OrderedDict
 from typing import Any, Dict, Mapping, Optional, Protocol, Tuple
 
+from ..answers import kind_of
+from ..limits import check_flag, check_whole
 from ..sql import SIGNED_IN, SqlServer
 from ..sql_rows import KeptSignIn, Rows
 
@@ -49,7 +51,7 @@ class MemoryWebStore:
     looks_up = False
 
     def __init__(self, most: int = MOST) -> None:
-        self._most = most
+        self._most = check_whole(most, "the most sign-ins", 1)
         self._secret = secrets.token_bytes(32)
         self._lock = threading.Lock()
         self._sign_ins: OrderedDict[str, Tuple[KeptSignIn, float]] = OrderedDict()
@@ -101,8 +103,10 @@ class SqlWebStore:
     """A `WebStore` as rows in the tables of a `SqlServer`: of one that keeps the passkeys too (`looks_up`), or beside another server."""
 
     def __init__(self, server: SqlServer, *, looks_up: bool = False) -> None:
+        if not isinstance(server, SqlServer):
+            raise TypeError(f"SqlWebStore takes a SqlServer, and not {kind_of(server)}")
         self.server = server
-        self.looks_up = looks_up
+        self.looks_up = check_flag(looks_up, "looks_up")
         self._secret: Optional[bytes] = None
 
     def secret(self) -> bytes:
