@@ -1,4 +1,4 @@
-"""A passkey relying party (WebAuthn Level 2, sections 7.1 and 7.2) whose steps are proved code, which an extension
+"""A passkey relying party (WebAuthn Level 3, sections 7.1 and 7.2) whose steps are proved code, which an extension
 module calls. Signatures are verified by `cryptography`.
 
     server = Server("example.com", ["https://example.com"])
