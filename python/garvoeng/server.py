@@ -22,7 +22,7 @@ _NO_CREDENTIAL = Credential(b"", b"", ES256, b"", b"", 0, None)
 
 
 def _raised(is_registration: bool, answer: int) -> Exception:
-    """What an answer says that is not of an acceptance."""
+    """The exception for an answer other than acceptance."""
     text = library.refusal_text(is_registration, answer)
     if library.ACCEPTED < answer <= library.LAST_STEP:
         return Refused(is_registration, answer, text)

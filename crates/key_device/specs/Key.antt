@@ -126,13 +126,14 @@ without_its_token k = record k { pin = option_map without_token k.pin }
 
 -- ---- a signature
 
--- the authenticator's step on what it was handed of the request that the device works on, where this signature alone is valid
+-- the authenticator's step on the current request, as it was handed to it, where this signature alone is valid
 abbrev pub IsStepOn : Keys → KeyDeviceState → Consent → Words → Pending → List ℕ → List ℕ → AuthenticatorState → Type 0
 IsStepOn public old consent words p signature reply b =
     (c : ℕ) × (bs : List ℕ) × (h : Handed) × (work old.device.state ≡ Some (c, bs)) × (handed old.pin old.stage bs consent ≡ Some h)
     × Steps (only (public p.alg p.secret) (message_of p) signature) public old.authenticator c h.request h.consent words reply b
 
--- the signature of what waits has come: with it the request that the device works on is answered, by the step that was decided on
+-- the awaited signature arrived: it answers the current request by the step that was decided on, for every key function that agrees with the
+-- known keys on this secret
 pub record IsSigned (old : KeyDeviceState) (before : List Packet) (signature : List ℕ) (new : KeyDeviceState) (after : List Packet) : Type 0 where
   pub pending : Pending
   pub known : Keys
