@@ -99,7 +99,13 @@ fn party_options<'a>(alloc: Global, help: &'a str) -> Result<Command<'a>, AllocE
                 .required(true)
                 .help("The site's SQLite file"),
         )?
-        .arg(option(alloc, "rp-id", "ID", "The relying party id: the site's domain").required(true))?
+        .arg(option(
+            alloc,
+            "rp-id",
+            "ID",
+            "The relying party id: the site's domain",
+        )
+        .required(true))?
         .arg(
             option(
                 alloc,
@@ -178,12 +184,10 @@ fn log_option<'a>(alloc: Global) -> Arg<'a> {
 /// The same with the options of the file.
 fn file_options<'a>(alloc: Global, help: &'a str) -> Result<Command<'a>, AllocError> {
     bound_options(alloc, help)?
-        .arg(switch(
-            alloc,
+        .arg(switch(alloc, "new", "Make the file; fail if it exists"))?
+        .arg(switch(alloc, "existing", "Open the file; fail if there is none").conflicts_with(
             "new",
-            "Make the file; fail if it exists",
-        ))?
-        .arg(switch(alloc, "existing", "Open the file; fail if there is none").conflicts_with("new")?)?
+        )?)?
         .arg(option(
             alloc,
             "at-least",
