@@ -7,7 +7,7 @@ use Rattle.clientdata.specs.declared.record.CeremonyType.TheVariants.{Create, Ge
 use Rattle.passkey.specs.declared.arguments.Inspection.{Inspection}
 use Rattle.passkey.specs.declared.arguments.Inspection.TheVariants.{Cbor, AuthData, Packets, ClientData}
 use Rattle.passkey.specs.declared.arguments.Subcommand.{Subcommand}
-use Rattle.passkey.specs.declared.arguments.Subcommand.TheVariants.{Inspect, Check, Replay}
+use Rattle.passkey.specs.declared.arguments.Subcommand.TheVariants.{Inspect, Check, Replay, Explain}
 use Rattle.clap.specs.declared.builder.command.Command.TheViews.{out-Command as fields_of}
 use Rattle.clap.specs.declared.builder.command.Command.{Command}
 use Rattle.clap.specs.declared.builder.value_parser.ValueParser.{ValueParser}
@@ -40,18 +40,27 @@ check_app p = with_rule (check_options_app p) (record (new_rule (codes "cross"))
 abbrev pub replay_app : App
 replay_app = new_app (codes "replay")
 
+abbrev pub explain_json_app : App
+explain_json_app = with_rule (new_app (codes "explain")) (record (new_rule (codes "json")) { long = Some (codes "json"); action = Some SetTrue })
+
+abbrev pub explain_app : App
+explain_app = with_rule explain_json_app (record (new_rule (codes "file")) { required = true })
+
 abbrev pub required : App → App
 required a = record { top = record a.top { subcommand_required = true }; subs = a.subs }
 
--- with its first subcommand, and with two
+-- with its first subcommand, with two, three and four
 abbrev pub inspecting_app : ValueParser → App
 inspecting_app p = with_subcommand (required (new_app (codes "passkey"))) (inspect_app p).top
 
 abbrev pub checking_app : ValueParser → ValueParser → App
 checking_app p q = with_subcommand (inspecting_app p) (check_app q).top
 
+abbrev pub replaying_app : ValueParser → ValueParser → App
+replaying_app p q = with_subcommand (checking_app p q) replay_app.top
+
 abbrev pub passkey_app : ValueParser → ValueParser → App
-passkey_app p q = with_subcommand (checking_app p q) replay_app.top
+passkey_app p q = with_subcommand (replaying_app p q) explain_app.top
 
 -- the command has the shape, whatever two parsers its arguments have
 abbrev pub HasAppOfBoth : (ValueParser → ValueParser → App) → Command → Type 0
@@ -78,6 +87,9 @@ IsAsked (Some s) (Check kind challenge origin cross) =
     × (first_of (codes "origin") s.1 ≡ Some (string_bytes origin)) × (one_of (codes "cross") s.1 ≡ Some (codes "true") → cross ≡ true)
     × (one_of (codes "cross") s.1 ≡ Some (codes "false") → cross ≡ false)
 IsAsked (Some s) Replay = s.0 ≡ codes "replay"
+IsAsked (Some s) (Explain json file) =
+    (s.0 ≡ codes "explain") × (first_of (codes "file") s.1 ≡ Some (string_bytes file)) × (one_of (codes "json") s.1 ≡ Some (codes "true") → json ≡ true)
+    × (one_of (codes "json") s.1 ≡ Some (codes "false") → json ≡ false)
 
 -- what the arguments ask for, as the command line reads them
 abbrev pub IsAskedBy : List Text → Subcommand → Type 0

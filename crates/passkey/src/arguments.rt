@@ -5,7 +5,7 @@ ghost use Rattle.clap.specs.Words.{app_of, new_app, shape_of, subcommand_rows_of
 ghost use Rattle.clap.specs.declared.builder.command.Command.TheViews.{out-Command as fields_of};
 ghost use Rattle.clientdata.specs.declared.record.CeremonyType.{CeremonyType};
 ghost use Rattle.passkey.specs.declared.arguments.Inspection.{Inspection};
-ghost use Rattle.passkey.specs.CommandLine.{HasApp, HasAppOf, HasAppOfBoth, IsAsked, IsAskedBy, ceremony_word, check_app, check_options_app, check_type_app, checking_app, inspect_app, inspecting_app, inspection_word, passkey_app, replay_app, required, required_option};
+ghost use Rattle.passkey.specs.CommandLine.{HasApp, HasAppOf, HasAppOfBoth, IsAsked, IsAskedBy, ceremony_word, check_app, check_options_app, check_type_app, checking_app, explain_app, explain_json_app, inspect_app, inspecting_app, inspection_word, passkey_app, replay_app, replaying_app, required, required_option};
 ghost use Rattle.passkey.specs.Private.{HasRuleOf, chosen};
 
 use crate::script_lines::replay_help;
@@ -48,6 +48,11 @@ pub enum Subcommand {
     },
     /// Run the script on standard input.
     Replay,
+    /// Tell each step of the case in this file, in JSON or as lines.
+    Explain {
+        json: bool,
+        file: String,
+    },
 }
 
 const PASSKEY_HELP: &str =
@@ -65,6 +70,16 @@ ends in hex are passed over. Packets are one a line, of 128 digits each. Bytes t
 as a fault with its number, status 1.
 
 Example: echo a1 01 81 41 0a | passkey inspect cbor";
+
+const EXPLAIN_HELP: &str =
+    "FILE is a case in JSON, as the inspector shows it: the browser's response, rp_id, origins and session, and of a sign-in
+the credential's row. Bytes are base64url. Each step is told in order: passed, failed or not reached. Of the one that fails it
+is told when it is refused, and what to do. The program verifies no signature: say true or false by signature_verified.
+Without that, the signature and its message are shown as not judged, and the steps after as if it is valid.
+
+The status is 0 if the response is accepted, 1 if it is refused, 2 if it is not judged.
+
+Example: passkey explain case.json";
 
 const CHECK_HELP: &str =
     "Prints match, or differ with status 1. This is the limited verification of WebAuthn, section 5.8.1.2.
@@ -169,6 +184,26 @@ fn replay<'a>(alloc: Global, help: &'a str) -> Parser<'a>
     plain(alloc, "replay", about, help)
 }
 
+/// The switch for JSON.
+fn explain_json<'a>(alloc: Global) -> Result<Parser<'a>, AllocError>
+    ensures { IfOk result (HasApp explain_json_app) }
+{
+    let json = Arg::new(alloc, "json")
+        .long("json")
+        .action(ArgAction::SetTrue)
+        .help("Tell it in JSON");
+    let about = "Tell why a response is accepted or refused, step by step";
+    plain(alloc, "explain", about, EXPLAIN_HELP).arg(json)
+}
+
+/// The subcommand that explains a case.
+fn explain<'a>(alloc: Global) -> Result<Parser<'a>, AllocError>
+    ensures { IfOk result (HasApp explain_app) }
+{
+    let file = Arg::new(alloc, "file").required(true).help("The file of the case");
+    explain_json(alloc)?.arg(file)
+}
+
 /// The program's parser with its first subcommand.
 fn inspecting<'a>(alloc: Global) -> Result<Parser<'a>, AllocError>
     ensures { IfOk result (λ c. HasAppOf inspecting_app c) }
@@ -186,12 +221,21 @@ fn checking<'a>(alloc: Global) -> Result<Parser<'a>, AllocError>
     with_sub(parser, check)
 }
 
+/// The same with its third one, with this text after its help.
+fn replaying<'a>(alloc: Global, help: &'a str) -> Result<Parser<'a>, AllocError>
+    ensures { IfOk result (λ c. HasAppOfBoth replaying_app c) }
+{
+    let parser = checking(alloc)?;
+    with_sub(parser, replay(alloc, help))
+}
+
 /// The program's parser, with this text after the help of `replay`.
 fn passkey<'a>(alloc: Global, help: &'a str) -> Result<Parser<'a>, AllocError>
     ensures { IfOk result (λ c. HasAppOfBoth passkey_app c) }
 {
-    let parser = checking(alloc)?;
-    with_sub(parser, replay(alloc, help))
+    let explain = explain(alloc)?;
+    let parser = replaying(alloc, help)?;
+    with_sub(parser, explain)
 }
 
 /// The kind of bytes that a word names.
@@ -268,6 +312,21 @@ fn replayed(matches: &ArgMatches<'_>) -> Option<Subcommand>
     Some(Subcommand::Replay)
 }
 
+/// What an explanation asks for.
+fn explained(alloc: Global, matches: &ArgMatches<'_>) -> Result<Option<Subcommand>, AllocError>
+    ensures { IfOk result (λ o. IfSome o (IsAsked (subcommand_rows_of matches.now))) }
+{
+    let Some(inner) = matches.subcommand_matches("explain") else {
+        return Ok(None);
+    };
+    let Some(file) = inner.get_str("file") else {
+        return Ok(None);
+    };
+    let json = inner.get_flag("json");
+    let file = String::from_str(alloc, file)?;
+    Ok(Some(Subcommand::Explain { json, file }))
+}
+
 /// What the matches ask for.
 fn asked_by(alloc: Global, matches: &ArgMatches<'_>) -> Result<Option<Subcommand>, AllocError>
     ensures { IfOk result (λ o. IfSome o (IsAsked (subcommand_rows_of matches.now))) }
@@ -278,7 +337,10 @@ fn asked_by(alloc: Global, matches: &ArgMatches<'_>) -> Result<Option<Subcommand
     if let Some(asked) = checked(alloc, matches)? {
         return Ok(Some(asked));
     }
-    Ok(replayed(matches))
+    if let Some(asked) = replayed(matches) {
+        return Ok(Some(asked));
+    }
+    explained(alloc, matches)
 }
 
 /// What the arguments ask the program's parser for; nothing where a value is missing.

@@ -1,7 +1,9 @@
 //! The program over the system's arguments and standard streams.
 
+use crate::arguments::{Subcommand, command};
 use crate::program::run;
 use std::env::Env;
+use std::fs::File;
 use std::io::Write;
 use std::{env, io};
 
@@ -25,6 +27,39 @@ fn no_words(rt: &HostRuntime, error: &io::Error) -> u8 {
     status
 }
 
+/// The file that the arguments ask to be explained; none where they ask for something else.
+fn explained_file(rt: &HostRuntime, arguments: &[&str]) -> Option<String> {
+    match command(rt.alloc(), arguments) {
+        Ok(Subcommand::Explain { json: _, file }) => Some(file),
+        _ => None,
+    }
+}
+
+/// The status where a file could not be opened.
+fn no_file(rt: &HostRuntime, error: &io::Error) -> u8 {
+    let (text, status) = match error.kind() {
+        io::ErrorKind::OutOfMemory => ("out of memory\n", 3),
+        io::ErrorKind::NotFound => ("no such file\n", 4),
+        _ => ("read failed\n", 4),
+    };
+    let _ = rt.stderr().write_all(text.as_bytes());
+    status
+}
+
+/// Runs the program on a file in place of standard input.
+fn run_on_file(rt: &HostRuntime, arguments: &[&str], name: &str) -> u8 {
+    match File::open(rt, name) {
+        Ok(mut file) => run(
+            rt.alloc(),
+            arguments,
+            &mut file,
+            &mut rt.stdout(),
+            &mut rt.stderr(),
+        ),
+        Err(error) => no_file(rt, &error),
+    }
+}
+
 /// Runs the program on its name and the arguments.
 fn run_words(rt: &HostRuntime) -> io::Result<u8> {
     let owned = arguments(rt)?;
@@ -32,6 +67,9 @@ fn run_words(rt: &HostRuntime) -> io::Result<u8> {
     arguments.push("passkey")?;
     for word in &owned {
         arguments.push(word.as_str())?;
+    }
+    if let Some(name) = explained_file(rt, arguments.as_slice()) {
+        return Ok(run_on_file(rt, arguments.as_slice(), name.as_str()));
     }
     Ok(run(
         rt.alloc(),

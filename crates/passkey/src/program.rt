@@ -8,8 +8,9 @@ use crate::inspect::{InspectFault, inspect};
 use crate::replay::{ScriptEnd, run_script};
 use crate::script::Fault;
 use clap::error::ErrorKind;
+use explanation::{CaseError, Explained, Verdict, write_json, write_text};
 use json_lines::VERSION;
-use std::alloc::Global;
+use std::alloc::{AllocError, Global};
 use std::io;
 use std::io::{Read, Write};
 
@@ -119,6 +120,56 @@ fn tell<O: Write, E: Write>(verified: bool, out: &mut O, err: &mut E) -> u8 {
     }
 }
 
+/// What is told of a case, in JSON or as lines.
+fn explained_text(alloc: Global, json: bool, told: &Explained) -> Result<String, AllocError> {
+    let mut text = String::new(alloc);
+    if json {
+        write_json(alloc, told, &mut text)?;
+    } else {
+        write_text(alloc, told, &mut text)?;
+    }
+    Ok(text)
+}
+
+/// Prints what is told of a case, and answers the status of its verdict.
+fn print_explained<O: Write, E: Write>(
+    alloc: Global,
+    json: bool,
+    told: &Explained,
+    out: &mut O,
+    err: &mut E,
+) -> u8 {
+    let Ok(text) = explained_text(alloc, json, told) else {
+        return fail(err, "out of memory", 3);
+    };
+    if print(out, text.as_str()).is_err() {
+        return fail(err, "write failed", 5);
+    }
+    match told.verdict() {
+        Verdict::Accepted => 0,
+        Verdict::Refused => 1,
+        Verdict::NotJudged => 2,
+    }
+}
+
+/// Explains a case.
+fn explain<O: Write, E: Write>(
+    alloc: Global,
+    json: bool,
+    input: &[u8],
+    out: &mut O,
+    err: &mut E,
+) -> u8 {
+    match explanation::explain(alloc, input) {
+        Ok(told) => print_explained(alloc, json, &told, out, err),
+        Err(CaseError::Memory) => fail(err, "out of memory", 3),
+        Err(fault) => {
+            let _ = writeln!(err, "{fault}");
+            2
+        }
+    }
+}
+
 /// Prints the program's name and version.
 fn print_version<O: Write>(out: &mut O) -> io::Result<()> {
     writeln!(out, "passkey {VERSION}")?;
@@ -133,11 +184,13 @@ fn asks_version(arguments: &[&str]) -> bool {
     }
 }
 
-/// The program: arguments, the program's name first, and the standard streams; the answer is its status.
+/// The program: arguments, the program's name first, and the standard streams; the answer is its status. Of `explain` the
+/// reader is the file that it names.
 ///
 /// 0 where all went well; `--version` alone prints the version. Faults go to `err` and are found in this order: arguments that clap refuses (status
 /// 2, also for help), input of more than `MAX_INPUT` bytes (`input too long`, 2), a read that fails (`read
-/// failed`, 4), then those of the subcommand. Want of memory is `out of memory`, 3; a write to `out` that
+/// failed`, 4), then those of the subcommand. The status of `explain` is 0 where a response is accepted, 1 where it is
+/// refused, 2 where it is not judged. Want of memory is `out of memory`, 3; a write to `out` that
 /// fails is `write failed`, 5, and what went out is a beginning of the whole. Where `err` fails too, the
 /// status is the same.
 pub fn run<'a, R: Read, O: Write, E: Write>(
@@ -176,5 +229,6 @@ pub fn run<'a, R: Read, O: Write, E: Write>(
             Err(CheckFault::Memory) => fail(err, "out of memory", 3),
         },
         Subcommand::Replay => replay(alloc, &input, out, err),
+        Subcommand::Explain { json, file: _ } => explain(alloc, json, &input, out, err),
     }
 }

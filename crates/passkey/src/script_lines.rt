@@ -118,6 +118,15 @@ static FORMS: [Form; 11] = [
 const BEHIND_THE_LINES: &str =
     "Bytes are in hex, a channel has 8 hex digits. Empty lines and lines that begin with # are passed over.
 
+What is printed:
+  session N CHALLENGE         a sign-in began: its number, and its challenge as client data have it
+  accepted USER ID used N     a sign-in was accepted: its user and credential, and how many packets were read
+  refused WHAT                it was not: W and the number of a step of WebAuthn section 7.2 (docs/REFUSALS.md), or what was
+                              amiss before it: Incomplete (packets are missing), Dead N KIND (packet N, from 0, ended the
+                              message), DeviceError XX, Status XX (CTAP's, in hex), Empty, NotCanonical, Shape (of the reply)
+  ID USER COUNT               of table: a credential, its user and its signature counter
+  ID yes, no or unknown       of backup: whether a credential is eligible for backup
+
 A line of each:";
 
 /// The kind of the lines that begin with this word.

@@ -1,0 +1,292 @@
+//! What is told of a case, as lines or as JSON.
+
+use crate::case::Kind;
+use crate::explaining::{Explained, Verdict};
+use crate::shown::{Shown, ShownStep, Words};
+use base64::engine::general_purpose::URL_SAFE_NO_PAD;
+use clientdata::quoted_text;
+use cose::KeyView;
+use std::alloc::{AllocError, Global};
+use std::fmt::Write;
+use verification::VerifiedSignature;
+
+/// Why a case whose signature is not known is not judged.
+const NOT_KNOWN: &str =
+    "the signature is not verified here: verify it, and add signature_verified, true or false";
+
+impl Kind {
+    fn name(self) -> &'static str {
+        match self {
+            Kind::Registration => "registration",
+            Kind::SignIn => "sign-in",
+        }
+    }
+
+    /// The letter before the numbers of its refusals.
+    fn letter(self) -> &'static str {
+        match self {
+            Kind::Registration => "G",
+            Kind::SignIn => "W",
+        }
+    }
+}
+
+impl Verdict {
+    fn name(self) -> &'static str {
+        match self {
+            Verdict::Accepted => "accepted",
+            Verdict::Refused => "refused",
+            Verdict::NotJudged => "not judged",
+        }
+    }
+}
+
+/// The numbers of a public key: its COSE number, x and y.
+#[derive(Clone, Copy, Drop)]
+struct Numbers<'a> {
+    algorithm: &'static str,
+    x: &'a [u8],
+    y: &'a [u8],
+}
+
+fn numbers_of<'a>(key: &'a KeyView<'a>) -> Numbers<'a> {
+    match key {
+        KeyView::Es256 { x, y } => Numbers {
+            algorithm: "-7",
+            x,
+            y,
+        },
+        KeyView::EdDsa { x } => Numbers {
+            algorithm: "-8",
+            x,
+            y: &[],
+        },
+        KeyView::Rs256(rsa) => Numbers {
+            algorithm: "-257",
+            x: rsa.n,
+            y: rsa.e,
+        },
+    }
+}
+
+impl Explained {
+    /// The letter before the numbers of refusals.
+    fn letter(&self) -> &'static str {
+        match self.kind {
+            Some(kind) => kind.letter(),
+            None => "",
+        }
+    }
+
+    /// Why it is not judged, as a text; none where it is.
+    fn reason(&self, alloc: Global) -> Result<Option<String>, AllocError> {
+        match &self.fault {
+            Some(fault) => Ok(Some(format!(in alloc; "{fault}")?)),
+            None if self.asked.is_some() => Ok(Some(String::from_str(alloc, NOT_KNOWN)?)),
+            None => Ok(None),
+        }
+    }
+}
+
+/// Writes the first line.
+fn write_head(alloc: Global, told: &Explained, out: &mut String) -> Result<(), AllocError> {
+    let kind = match told.kind {
+        Some(kind) => kind.name(),
+        None => "response",
+    };
+    let verdict = told.verdict().name();
+    write!(out, "{kind} {verdict}")?;
+    if told.verdict() == Verdict::Refused {
+        if let Some(words) = told.refusal() {
+            let (letter, number, name, text) = (told.letter(), words.number, words.name, words.text);
+            write!(out, " {letter}{number} {name}: {text}")?;
+        }
+    }
+    if let Some(reason) = told.reason(alloc)? {
+        write!(out, ": {reason}")?;
+    }
+    out.push('\n')
+}
+
+/// Writes an indented line of bytes in hex.
+fn write_hex(alloc: Global, of: &str, bytes: &[u8], out: &mut String) -> Result<(), AllocError> {
+    let digits = hex::encode(alloc, bytes)?;
+    writeln!(out, "                  {of}: {digits}")
+}
+
+/// Writes the signature that is to be verified.
+fn write_asked(
+    alloc: Global,
+    asked: &VerifiedSignature,
+    out: &mut String,
+) -> Result<(), AllocError> {
+    let key = asked.key.view();
+    let numbers = numbers_of(&key);
+    let algorithm = numbers.algorithm;
+    writeln!(out, "                  algorithm: {algorithm}")?;
+    write_hex(alloc, "x", numbers.x, out)?;
+    write_hex(alloc, "y", numbers.y, out)?;
+    write_hex(alloc, "message", &asked.message, out)?;
+    write_hex(alloc, "signature", &asked.signature, out)?;
+    out.push_str("                  each step after this one is told as it is if the signature is valid\n")
+}
+
+/// Writes a step's line, and what to do if it fails or is not judged.
+fn write_step(
+    alloc: Global,
+    told: &Explained,
+    step: &ShownStep,
+    out: &mut String,
+) -> Result<(), AllocError> {
+    let (letter, number, state) = (told.letter(), step.words.number, step.shown.name());
+    let code = format!(in alloc; "{letter}{number}")?;
+    let (asks, standard) = (step.words.asks, step.words.standard);
+    writeln!(out, "{state:<13}{code:<5}{asks} ({standard})")?;
+    if step.shown == Shown::Failed {
+        let (when, advice) = (step.words.when, step.words.advice);
+        writeln!(out, "                  it is refused where: {when}")?;
+        writeln!(out, "                  what to do: {advice}")?;
+    }
+    match &told.asked {
+        Some(asked) if step.shown == Shown::NotJudged => write_asked(alloc, asked, out),
+        _ => Ok(()),
+    }
+}
+
+/// Appends what is told as lines: the kind and the verdict, then each step.
+pub fn write_text(alloc: Global, told: &Explained, out: &mut String) -> Result<(), AllocError> {
+    write_head(alloc, told, out)?;
+    for step in &told.steps {
+        write_step(alloc, told, step, out)?;
+    }
+    Ok(())
+}
+
+/// Writes a member whose value is a text.
+fn put(alloc: Global, name: &str, text: &str, out: &mut String) -> Result<(), AllocError> {
+    let text = quoted_text(alloc, text)?;
+    write!(out, "\"{name}\":{text}")
+}
+
+/// Writes a member whose value is a text or null.
+fn put_or_null(
+    alloc: Global,
+    name: &str,
+    text: Option<&str>,
+    out: &mut String,
+) -> Result<(), AllocError> {
+    match text {
+        Some(text) => put(alloc, name, text, out),
+        None => write!(out, "\"{name}\":null"),
+    }
+}
+
+/// Writes a member whose value is bytes, in base64url.
+fn put_bytes(alloc: Global, name: &str, bytes: &[u8], out: &mut String) -> Result<(), AllocError> {
+    let text = URL_SAFE_NO_PAD.encode(alloc, bytes)?;
+    write!(out, ",\"{name}\":\"{text}\"")
+}
+
+/// Writes the members that name a step.
+fn put_name(
+    alloc: Global,
+    letter: &str,
+    words: &Words,
+    out: &mut String,
+) -> Result<(), AllocError> {
+    let (number, name) = (words.number, words.name);
+    write!(out, "{{\"number\":{number},\"code\":\"{letter}{number}\",")?;
+    put(alloc, "name", name, out)
+}
+
+/// Writes the refusal.
+fn put_refusal(alloc: Global, told: &Explained, out: &mut String) -> Result<(), AllocError> {
+    let refusal = match told.verdict() {
+        Verdict::Refused => told.refusal(),
+        Verdict::Accepted | Verdict::NotJudged => None,
+    };
+    let Some(words) = refusal else {
+        return out.push_str("\"refusal\":null");
+    };
+    out.push_str("\"refusal\":")?;
+    put_name(alloc, told.letter(), words, out)?;
+    out.push(',')?;
+    put(alloc, "text", words.text, out)?;
+    out.push('}')
+}
+
+/// Writes a step.
+fn put_step(
+    alloc: Global,
+    letter: &str,
+    step: &ShownStep,
+    out: &mut String,
+) -> Result<(), AllocError> {
+    let words = step.words;
+    put_name(alloc, letter, words, out)?;
+    let members = [
+        ("standard", words.standard),
+        ("asks", words.asks),
+        ("state", step.shown.name()),
+        ("refusal", words.text),
+        ("when", words.when),
+        ("advice", words.advice),
+    ];
+    for (name, text) in members {
+        out.push(',')?;
+        put(alloc, name, text, out)?;
+    }
+    out.push('}')
+}
+
+/// Writes the signature that is not judged.
+fn put_asked(
+    alloc: Global,
+    asked: &VerifiedSignature,
+    out: &mut String,
+) -> Result<(), AllocError> {
+    let key = asked.key.view();
+    let numbers = numbers_of(&key);
+    let algorithm = numbers.algorithm;
+    write!(out, "{{\"algorithm\":{algorithm}")?;
+    put_bytes(alloc, "x", numbers.x, out)?;
+    put_bytes(alloc, "y", numbers.y, out)?;
+    put_bytes(alloc, "message", &asked.message, out)?;
+    put_bytes(alloc, "signature", &asked.signature, out)?;
+    out.push('}')
+}
+
+/// Writes the members before the steps.
+fn put_head(alloc: Global, told: &Explained, out: &mut String) -> Result<(), AllocError> {
+    out.push('{')?;
+    put_or_null(alloc, "kind", told.kind.map(|kind| kind.name()), out)?;
+    out.push(',')?;
+    put(alloc, "verdict", told.verdict().name(), out)?;
+    out.push(',')?;
+    let reason = told.reason(alloc)?;
+    put_or_null(alloc, "fault", reason.as_deref(), out)?;
+    out.push(',')?;
+    put_refusal(alloc, told, out)
+}
+
+/// Writes the steps.
+fn put_steps(alloc: Global, told: &Explained, out: &mut String) -> Result<(), AllocError> {
+    for (i, step) in told.steps.iter().enumerate() {
+        out.push_str(if i == 0 { "\n" } else { ",\n" })?;
+        put_step(alloc, told.letter(), step, out)?;
+    }
+    Ok(())
+}
+
+/// Appends what is told as one object of JSON, a line for each step.
+pub fn write_json(alloc: Global, told: &Explained, out: &mut String) -> Result<(), AllocError> {
+    put_head(alloc, told, out)?;
+    out.push_str(",\"signature\":")?;
+    match &told.asked {
+        Some(asked) => put_asked(alloc, asked, out)?,
+        None => out.push_str("null")?,
+    }
+    out.push_str(",\"steps\":[")?;
+    put_steps(alloc, told, out)?;
+    out.push_str("]}\n")
+}
