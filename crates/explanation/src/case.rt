@@ -133,23 +133,70 @@ fn profile_named(name: &str) -> Option<Profile> {
     }
 }
 
+/// Whether a byte may stand in a domain as browsers write it.
+fn is_of_domain(byte: u8) -> bool {
+    byte.is_ascii_lowercase() || byte.is_ascii_digit() || matches!(byte, b'.' | b'-' | b'_')
+}
+
+/// Whether a text has the characters of a domain.
+fn is_domain(text: &str) -> bool {
+    !text.is_empty() && text.bytes().all(is_of_domain)
+}
+
+/// Whether a byte may stand in the host and the port of an origin.
+fn is_of_host(byte: u8) -> bool {
+    is_of_domain(byte) || matches!(byte, b':' | b'[' | b']')
+}
+
+/// Whether a text has the form of an origin as browsers write it, in lower case and without a path, or of an app's (RFC 6454,
+/// section 6.2).
+fn is_origin(text: &str) -> bool {
+    if text.starts_with("android:apk-key-hash:") {
+        return true;
+    }
+    match text.split_once("://") {
+        Some((scheme, host)) => {
+            is_domain(scheme) && !host.is_empty() && host.bytes().all(is_of_host)
+        }
+        None => false,
+    }
+}
+
+/// The origins of a list.
+fn origins<'a>(
+    alloc: Global,
+    case: &'a Value,
+    name: &'static str,
+) -> Result<Vec<&'a str>, CaseError> {
+    let found = texts(alloc, case, name)?;
+    for origin in &found {
+        if !is_origin(origin) {
+            return Err(CaseError::BadForm(name));
+        }
+    }
+    Ok(found)
+}
+
 /// The relying party of a case.
 pub(crate) fn party_of(alloc: Global, case: &Value) -> Result<RelyingParty, CaseError> {
     let Some(profile) = profile_named(text_or(case, "profile", "level3")?) else {
         return Err(CaseError::BadForm("profile"));
     };
     let rp_id = text(case, "rp_id")?;
-    let origins = texts(alloc, case, "origins")?;
-    if origins.is_empty() {
+    if !is_domain(rp_id) {
+        return Err(CaseError::BadForm("rp_id"));
+    }
+    let pages = origins(alloc, case, "origins")?;
+    if pages.is_empty() {
         return Err(CaseError::BadForm("origins"));
     }
-    let top_origins = texts(alloc, case, "top_origins")?;
+    let framing = origins(alloc, case, "top_origins")?;
     Ok(RelyingParty::framed_by(
         alloc,
         profile,
         rp_id,
-        &origins,
-        &top_origins,
+        &pages,
+        &framing,
     )?)
 }
 
