@@ -1,6 +1,7 @@
 -- The rows of steps, from the one that fails.
 use Rattle.std.proofs.Common.{◌≡◌, ◌↔◌, ◌<◌, ◌++◌, ◌∷◌, [], ◌⊎◌, inl, inr, List, Bool, true, false, Option, Some, None, refl, sym, ◌∙◌, ap, subst, append_assoc, arith}
-use Rattle.std.specs.Prelude.{IsTrue, Contains}
+use Rattle.std.specs.Prelude.{IsTrue, Contains, IfOk, Result, Ok, Err}
+use Rattle.std.proofs.Common.{Vec}
 use Rattle.std.proofs.lemmas.Bool.{true≢false}
 use Rattle.std.proofs.lemmas.List.{map-append}
 use Rattle.std.proofs.lemmas.List.Elements.{Contains-append_right, Contains-push_cases}
@@ -70,3 +71,8 @@ are_told {S} Passes steps (Some step) rows first are = elim are [
   | inr p ↦ inr (p.0, step, p.1, p.2, p.3,
     parted p.0 p.1 step (subst (λ (xs : List S). FirstStop Passes (λ s. Passes s → ⊥) xs step) p.2 first) p.4, stops_at first)
 ]
+
+pub told_result : {S E Z : Type 0} (Passes : S → Type 0) (steps : List S) (failed : Option S) (result : Result (Vec (ToldStep S) Z) E)
+    → IsVerdict Passes steps failed → IfOk result (λ rows. FailAs failed steps rows.items) → IfOk result (λ rows. AreTold Passes steps rows.items)
+told_result Passes steps failed (Ok rows) verdict are = are_told Passes steps failed rows.items verdict are
+told_result Passes steps failed (Err e) verdict are = tt
