@@ -4,7 +4,7 @@ use crate::asked;
 use crate::case::{Kind, check_case, flag_or_none, parts_of, party_of, policy_of, raw_id, value_of};
 use crate::error::CaseError;
 use crate::judged::{explain_registration, explain_sign_in};
-use crate::row::credential_row;
+use crate::row::{CredentialRow, credential_row};
 use crate::sessions;
 use crate::shown::{Shown, ShownStep, Words, shown_steps, unreached};
 use crate::words::{REGISTRATION, SIGN_IN};
@@ -12,7 +12,8 @@ use json_lines::{bytes, flag, needed, optional_bytes};
 use serde_json::Value;
 use std::alloc::{AllocError, Global};
 use verification::{
-    AssertionParts, RegistrationAttempt, RegistrationParts, SignInAttempt, VerifiedSignature,
+    AssertionParts, RegistrationAttempt, RegistrationParts, RowView, SignInAttempt,
+    VerifiedSignature,
 };
 
 /// What is told of a case.
@@ -85,6 +86,27 @@ fn unless_judged(
     None
 }
 
+/// The steps of a sign-in, where its signature is said to be valid or not, or nothing is said of it.
+fn sign_in_steps(
+    alloc: Global,
+    attempt: &SignInAttempt<'_, '_>,
+    said: Option<bool>,
+) -> Result<Judged, AllocError> {
+    let valid = explain_sign_in(alloc, attempt, said.unwrap_or(true))?;
+    let invalid = explain_sign_in(alloc, attempt, said.unwrap_or(false))?;
+    let steps = shown_steps(alloc, &SIGN_IN, &valid, &invalid)?;
+    let asked = unless_judged(&steps, asked::of_sign_in(alloc, attempt)?);
+    Ok(Judged { steps, asked })
+}
+
+/// A row, lent.
+fn lent(row: &Option<CredentialRow>) -> Option<RowView<'_>> {
+    match row {
+        Some(row) => Some(row.view()),
+        None => None,
+    }
+}
+
 /// A sign-in's case judged, by its parts.
 fn sign_in(alloc: Global, case: &Value, parts: &Value) -> Result<Judged, CaseError> {
     let party = party_of(alloc, case)?;
@@ -97,51 +119,74 @@ fn sign_in(alloc: Global, case: &Value, parts: &Value) -> Result<Judged, CaseErr
     let signature = bytes(alloc, parts, "signature")?;
     let user = optional_bytes(alloc, parts, "userHandle")?;
     let said = flag_or_none(case, "signature_verified")?;
+    let user = user.as_deref();
+    let response = AssertionParts {
+        credential: id.as_slice(),
+        user,
+        auth_data: auth_data.as_slice(),
+        signature: signature.as_slice(),
+        client_data: client_data.as_slice(),
+    };
+    let session = session.as_ref();
+    let credential = lent(&row);
     let attempt = SignInAttempt {
         party: &party,
-        session: session.as_ref(),
-        credential: row.as_ref().map(|row| row.view()),
-        response: AssertionParts {
-            credential: &id,
-            user: user.as_deref(),
-            auth_data: &auth_data,
-            signature: &signature,
-            client_data: &client_data,
-        },
+        session,
+        credential,
+        response,
     };
-    let valid = explain_sign_in(alloc, &attempt, said.unwrap_or(true))?;
-    let invalid = explain_sign_in(alloc, &attempt, said.unwrap_or(false))?;
-    let steps = shown_steps(alloc, &SIGN_IN, &valid, &invalid)?;
-    let asked = unless_judged(&steps, asked::of_sign_in(alloc, &attempt)?);
+    Ok(sign_in_steps(alloc, &attempt, said)?)
+}
+
+/// Whether a credential with the id is registered, and whether there is no room for another one.
+#[derive(Clone, Copy, Drop)]
+struct Place {
+    is_registered: bool,
+    is_full: bool,
+}
+
+/// The steps of a registration, where its signature is said to be valid or not, or nothing is said of it.
+fn registration_steps(
+    alloc: Global,
+    attempt: &RegistrationAttempt<'_, '_>,
+    said: Option<bool>,
+    place: Place,
+) -> Result<Judged, AllocError> {
+    let (yes, no) = (said.unwrap_or(true), said.unwrap_or(false));
+    let valid = explain_registration(alloc, attempt, yes, place.is_registered, place.is_full)?;
+    let invalid = explain_registration(alloc, attempt, no, place.is_registered, place.is_full)?;
+    let steps = shown_steps(alloc, &REGISTRATION, &valid, &invalid)?;
+    let asked = unless_judged(&steps, asked::of_registration(alloc, attempt)?);
     Ok(Judged { steps, asked })
 }
 
 /// A registration's case judged, by its parts.
 fn registration(alloc: Global, case: &Value, parts: &Value) -> Result<Judged, CaseError> {
     let party = party_of(alloc, case)?;
+    let policy = policy_of(case)?;
     let session = sessions::of_registration(alloc, case)?;
     let id = raw_id(alloc, needed(case, "response")?)?;
     let client_data = bytes(alloc, parts, "clientDataJSON")?;
     let object = bytes(alloc, parts, "attestationObject")?;
-    let is_registered = flag(case, "registered", false)?;
-    let is_full = flag(case, "full", false)?;
+    let place = Place {
+        is_registered: flag(case, "registered", false)?,
+        is_full: flag(case, "full", false)?,
+    };
     let said = flag_or_none(case, "signature_verified")?;
+    let raw_id = Some(id.as_slice());
+    let response = RegistrationParts {
+        object: object.as_slice(),
+        client_data: client_data.as_slice(),
+        raw_id,
+    };
+    let session = session.as_ref();
     let attempt = RegistrationAttempt {
         party: &party,
-        policy: policy_of(case)?,
-        session: session.as_ref(),
-        response: RegistrationParts {
-            object: &object,
-            client_data: &client_data,
-            raw_id: Some(&id),
-        },
+        policy,
+        session,
+        response,
     };
-    let (yes, no) = (said.unwrap_or(true), said.unwrap_or(false));
-    let valid = explain_registration(alloc, &attempt, yes, is_registered, is_full)?;
-    let invalid = explain_registration(alloc, &attempt, no, is_registered, is_full)?;
-    let steps = shown_steps(alloc, &REGISTRATION, &valid, &invalid)?;
-    let asked = unless_judged(&steps, asked::of_registration(alloc, &attempt)?);
-    Ok(Judged { steps, asked })
+    Ok(registration_steps(alloc, &attempt, said, place)?)
 }
 
 /// A case judged whose response is of this kind.

@@ -125,7 +125,9 @@ fn write_asked(
     let algorithm = numbers.algorithm;
     writeln!(out, "                  algorithm: {algorithm}")?;
     write_hex(alloc, "x", numbers.x, out)?;
-    write_hex(alloc, "y", numbers.y, out)?;
+    if !numbers.y.is_empty() {
+        write_hex(alloc, "y", numbers.y, out)?;
+    }
     write_hex(alloc, "message", &asked.message, out)?;
     write_hex(alloc, "signature", &asked.signature, out)?;
     out.push_str("                  each step after this one is told as it is if the signature is valid\n")
