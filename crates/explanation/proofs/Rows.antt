@@ -20,16 +20,22 @@ SoFar {S} false failed done rows = (step : S) × (failed ≡ Some step) × FailA
 pub pushed : {S : Type 0} (reached is_failed : Bool) (failed : Option S) (step : S) (done : List S) (rows : List (ToldStep S)) → SoFar reached failed done rows
     → (IsTrue is_failed ↔ (failed ≡ Some step))
     → SoFar (reached_after reached is_failed) failed (done ++ step ∷ []) (rows ++ row (state_as reached is_failed) step ∷ [])
-pushed {S} false is_failed failed step done rows (other, is, (before, after, steps_are, rows_are, none)) decides = (other, is, (
-  before, after ++ step ∷ [],
-  ap (λ (xs : List S). xs ++ step ∷ []) steps_are ∙ append_assoc before (other ∷ after) (step ∷ []),
-  ap (λ (xs : List (ToldStep S)). xs ++ row NotReached step ∷ []) rows_are
-  ∙ append_assoc (told Passed before) (row Failed other ∷ told NotReached after) (row NotReached step ∷ [])
-  ∙ ap (λ (xs : List (ToldStep S)). told Passed before ++ (row Failed other ∷ xs)) (sym (map-append (row NotReached) after (step ∷ []))),
-  none,
-))
+pushed {S} false is_failed failed step done rows (other, is, (before, after, steps_are, rows_are, none)) decides = (
+  other,
+  is,
+  (
+    before,
+    after ++ step ∷ [],
+    ap (λ (xs : List S). xs ++ step ∷ []) steps_are ∙ append_assoc before (other ∷ after) (step ∷ []),
+    ap (λ (xs : List (ToldStep S)). xs ++ row NotReached step ∷ []) rows_are
+        ∙ append_assoc (told Passed before) (row Failed other ∷ told NotReached after) (row NotReached step ∷ [])
+        ∙ ap (λ (xs : List (ToldStep S)). told Passed before ++ (row Failed other ∷ xs)) (sym (map-append (row NotReached) after (step ∷ []))),
+    none,
+  ),
+)
 pushed {S} true true failed step done rows (rows_are, none) decides = (
-  step, decides.0 refl,
+  step,
+  decides.0 refl,
   (done, [], refl, ap (λ (xs : List (ToldStep S)). xs ++ row Failed step ∷ []) rows_are, none step (decides.0 refl)),
 )
 pushed {S} true false failed step done rows (rows_are, none) decides = (
@@ -68,8 +74,15 @@ pub are_told : {S : Type 0} (Passes : S → Type 0) (steps : List S) (failed : O
 are_told Passes steps None rows passed are = inl (passed, are)
 are_told {S} Passes steps (Some step) rows first are = elim are [
   | inl p ↦ absurd (p.0 (there first))
-  | inr p ↦ inr (p.0, step, p.1, p.2, p.3,
-    parted p.0 p.1 step (subst (λ (xs : List S). FirstStop Passes (λ s. Passes s → ⊥) xs step) p.2 first) p.4, stops_at first)
+  | inr p ↦ inr (
+    p.0,
+    step,
+    p.1,
+    p.2,
+    p.3,
+    parted p.0 p.1 step (subst (λ (xs : List S). FirstStop Passes (λ s. Passes s → ⊥) xs step) p.2 first) p.4,
+    stops_at first,
+  )
 ]
 
 pub told_result : {S E Z : Type 0} (Passes : S → Type 0) (steps : List S) (failed : Option S) (result : Result (Vec (ToldStep S) Z) E)

@@ -2,9 +2,7 @@
 
 use authdata::AttestationView;
 use std::alloc::{AllocError, Global};
-use verification::{
-    RegistrationAttempt, SignInAttempt, VerifiedSignature, attested_key,
-};
+use verification::{RegistrationAttempt, SignInAttempt, VerifiedSignature, attested_key};
 
 /// The signature of a sign-in, under the key of its row; none without a row.
 pub(crate) fn of_sign_in(

@@ -191,13 +191,7 @@ pub(crate) fn party_of(alloc: Global, case: &Value) -> Result<RelyingParty, Case
         return Err(CaseError::BadForm("origins"));
     }
     let framing = origins(alloc, case, "top_origins")?;
-    Ok(RelyingParty::framed_by(
-        alloc,
-        profile,
-        rp_id,
-        &pages,
-        &framing,
-    )?)
+    Ok(RelyingParty::framed_by(alloc, profile, rp_id, &pages, &framing)?)
 }
 
 /// Which attestations a case's relying party accepts: at least one of both kinds.
@@ -223,10 +217,7 @@ pub(crate) fn challenge(alloc: Global, session: &Value) -> Result<[u8; 32], Case
 }
 
 /// A member that is true or false, or not said.
-pub(crate) fn flag_or_none(
-    object: &Value,
-    name: &'static str,
-) -> Result<Option<bool>, CaseError> {
+pub(crate) fn flag_or_none(object: &Value, name: &'static str) -> Result<Option<bool>, CaseError> {
     match json_lines::member(object, name) {
         Some(value) => match value.as_bool() {
             Some(flag) => Ok(Some(flag)),

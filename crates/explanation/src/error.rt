@@ -19,9 +19,7 @@ pub enum CaseError {
     #[error("the case is not JSON")]
     NotJson,
     /// It has no response of either kind.
-    #[error(
-        "this is no response of a registration or a sign-in: its member response has neither attestationObject nor signature"
-    )]
+    #[error("this is no response of a registration or a sign-in: its member response has neither attestationObject nor signature")]
     NoResponse,
     /// An object has a member that is not known.
     #[error("{0} has a member that is not known")]

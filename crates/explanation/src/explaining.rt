@@ -1,13 +1,14 @@
 //! A case explained.
 
-use crate::asked;
-use crate::case::{Kind, check_case, flag_or_none, parts_of, party_of, policy_of, raw_id, value_of};
+use crate::case::{
+    Kind, check_case, flag_or_none, parts_of, party_of, policy_of, raw_id, value_of,
+};
 use crate::error::CaseError;
 use crate::judged::{explain_registration, explain_sign_in};
 use crate::row::{CredentialRow, credential_row};
-use crate::sessions;
 use crate::shown::{Shown, ShownStep, Words, shown_steps, unreached};
 use crate::words::{REGISTRATION, SIGN_IN};
+use crate::{asked, sessions};
 use json_lines::{bytes, flag, needed, optional_bytes};
 use serde_json::Value;
 use std::alloc::{AllocError, Global};
@@ -190,12 +191,7 @@ fn registration(alloc: Global, case: &Value, parts: &Value) -> Result<Judged, Ca
 }
 
 /// A case judged whose response is of this kind.
-fn judge(
-    alloc: Global,
-    case: &Value,
-    parts: &Value,
-    kind: Kind,
-) -> Result<Judged, CaseError> {
+fn judge(alloc: Global, case: &Value, parts: &Value, kind: Kind) -> Result<Judged, CaseError> {
     check_case(case)?;
     match kind {
         Kind::SignIn => sign_in(alloc, case, parts),

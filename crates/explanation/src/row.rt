@@ -153,7 +153,10 @@ fn row_in(alloc: Global, row: &Value) -> Result<CredentialRow, CaseError> {
 }
 
 /// The row of a case, where there is one.
-pub(crate) fn credential_row(alloc: Global, case: &Value) -> Result<Option<CredentialRow>, CaseError> {
+pub(crate) fn credential_row(
+    alloc: Global,
+    case: &Value,
+) -> Result<Option<CredentialRow>, CaseError> {
     match member(case, "credential") {
         Some(row) => Ok(Some(row_in(alloc, row)?)),
         None => Ok(None),

@@ -98,7 +98,12 @@ fn write_head(alloc: Global, told: &Explained, out: &mut String) -> Result<(), A
     write!(out, "{kind} {verdict}")?;
     if told.verdict() == Verdict::Refused {
         if let Some(words) = told.refusal() {
-            let (letter, number, name, text) = (told.letter(), words.number, words.name, words.text);
+            let (letter, number, name, text) = (
+                told.letter(),
+                words.number,
+                words.name,
+                words.text,
+            );
             write!(out, " {letter}{number} {name}: {text}")?;
         }
     }
@@ -130,7 +135,9 @@ fn write_asked(
     }
     write_hex(alloc, "message", &asked.message, out)?;
     write_hex(alloc, "signature", &asked.signature, out)?;
-    out.push_str("                  each step after this one is told as it is if the signature is valid\n")
+    out.push_str(
+        "                  each step after this one is told as it is if the signature is valid\n",
+    )
 }
 
 /// Writes a step's line, and what to do if it fails or is not judged.
@@ -242,11 +249,7 @@ fn put_step(
 }
 
 /// Writes the signature that is not judged.
-fn put_asked(
-    alloc: Global,
-    asked: &VerifiedSignature,
-    out: &mut String,
-) -> Result<(), AllocError> {
+fn put_asked(alloc: Global, asked: &VerifiedSignature, out: &mut String) -> Result<(), AllocError> {
     let key = asked.key.view();
     let numbers = numbers_of(&key);
     let algorithm = numbers.algorithm;

@@ -200,7 +200,9 @@ fn explain_json<'a>(alloc: Global) -> Result<Parser<'a>, AllocError>
 fn explain<'a>(alloc: Global) -> Result<Parser<'a>, AllocError>
     ensures { IfOk result (HasApp explain_app) }
 {
-    let file = Arg::new(alloc, "file").required(true).help("The file of the case");
+    let file = Arg::new(alloc, "file")
+        .required(true)
+        .help("The file of the case");
     explain_json(alloc)?.arg(file)
 }
 
