@@ -53,6 +53,23 @@ def test_django_limits_requests():
     rate_limit.cache_clear()
 
 
+def test_what_a_log_in_and_a_log_out_of_djangos_end():
+    """What the visitor has open, a sign-in too, though Django empties his session by itself."""
+    from django.contrib.auth import get_user_model
+    site, key = DjangoSite(None), device()
+    visitor = site.visitor()
+    registered(visitor, key)
+    user = get_user_model().objects.get(username="ada")
+    for change in (visitor.client.logout, lambda: visitor.client.force_login(user, "garvoeng.django.backends.PasskeyBackend")):
+        visitor.client.get("/passkeys/")
+        assert signed_in(visitor, key)[1][0] == 200
+        opened(visitor, key)
+        before = site.run("select data from garvoeng_session")
+        assert len(before) == 3
+        change()
+        assert site.run("select data from garvoeng_session") == []
+
+
 def test_no_sign_up_in_django():
     from django.test import override_settings
     site = DjangoSite(None)

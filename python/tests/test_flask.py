@@ -182,3 +182,19 @@ def test_what_limits(tmp_path):
         (tmp_path / f"wrong {number}").mkdir()
         site = FlaskSite(tmp_path / f"wrong {number}", rate_limit=wrong)
         assert site.visitor()("sign-in/begin", {})[0] == 500
+
+
+def test_who_asks_in_one_request(tmp_path):
+    """Who is looked up once for a request is nobody from its sign-out on, by an act and by the site's own."""
+    from garvoeng.flask import end, signed_in as who
+    site, key, seen = FlaskSite(tmp_path), device(), []
+    site.app.get("/bye", endpoint="bye")(lambda: str([who() is not None, end(), who()]))
+    site.app.before_request(lambda: seen.append(who()))
+    site.app.after_request(lambda response: (seen.append(who()), response)[1])
+    visitor = site.visitor()
+    registered(visitor, key)
+    kept = visitor.copied()
+    assert posted(site.app.test_client(use_cookies=False), kept.jar, "/bye", None).get_data(as_text=True) == "[True, None, None]"
+    assert signed_in(visitor, key)[1][0] == 200
+    seen.clear()
+    assert visitor("sign-out", {})[0] == 200 and seen == [key.user, None]

@@ -191,6 +191,34 @@ def test_a_damaged_row(tmp_path, keys):
     assert said[0].startswith("place 2: ")
 
 
+def test_a_file_whose_pages_disagree(tmp_path, keys):
+    """Each row can be read, but not by its id: the file is damaged, and nothing of it is moved."""
+    name = tmp_path / "site.db"
+    with closing(sqlite3.connect(name)) as site:
+        [(root,)] = site.execute("select rootpage from sqlite_master where type = 'index' and sql like '%(id)%'")
+        [(size,)] = site.execute("pragma page_size")
+    held = bytearray(name.read_bytes())
+    at = held.index(keys[0].id, (root - 1) * size, root * size)
+    held[at] ^= 1
+    name.write_bytes(held)
+    assert ran("site", name, tmp_path / "site.sqlite") == (1, f"{name} is damaged\n")
+    assert rows(tmp_path).rows() == []
+
+
+def test_it_is_held_while_it_is_written(tmp_path, keys, monkeypatch):
+    """From the first look on nobody else begins to write."""
+    made(tmp_path / "new.db", "--no-sums")
+    check = move_site._checked
+
+    def checked(site, name):
+        with closing(sqlite3.connect(name, timeout=0, isolation_level=None)) as other, pytest.raises(sqlite3.OperationalError, match="locked"):
+            other.execute("begin immediate")
+        check(site, name)
+
+    monkeypatch.setattr(move_site, "_checked", checked)
+    assert move_site.to_file(rows(tmp_path), str(tmp_path / "new.db"), [].append)
+
+
 def test_a_damaged_row_of_the_tables(tmp_path, keys):
     """It is counted, and its id is told; the others are moved."""
     assert ran("site", tmp_path / "site.db", tmp_path / "site.sqlite")[0] == 0

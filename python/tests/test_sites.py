@@ -221,6 +221,18 @@ def test_a_user_of_flask_login_goes_with_the_passkey(tmp_path):
     assert other.at("/user") == "ada" and other("list")[0] == 200
 
 
+def test_a_password_after_a_passkey(tmp_path):
+    """Who enters by a password where a passkey signed in before is one by a password: no passkey's end ends that."""
+    site, key = FlaskLoginSite(tmp_path), device()
+    visitor = site.visitor()
+    registered(visitor, key)
+    assert visitor.at("/user") == "ada"
+    visitor.at("/enter/ada")
+    assert visitor.at("/user") == "ada"
+    site.server.retire(key.id)
+    assert visitor.at("/user") == "ada" and visitor("list")[0] == 200
+
+
 def test_a_user_of_flask_login_who_may_not(tmp_path):
     site, key = FlaskLoginSite(tmp_path), device()
     registered(site.visitor(), key)
