@@ -327,3 +327,10 @@ test("what hosts and visitors hand in", async () => {
   await server.authenticateComplete(asked.session, device.signIn(asked.options, { user }));
   assert.equal(pool.totalCount, pool.idleCount);
 });
+
+test("names that are given at once are all kept", async () => {
+  const server = serving(), ids = Array.from({ length: 12 }, (_, at) => Buffer.from(`passkey ${at}`));
+  await server.prepare();
+  await Promise.all(ids.map((id) => server.webStore.rename(user, id, toText(id))));
+  assert.deepEqual([...(await server.webStore.names(user))].sort(), ids.map((id) => [toText(id), toText(id)]).sort());
+});
