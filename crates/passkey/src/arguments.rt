@@ -60,22 +60,22 @@ const PASSKEY_HELP: &str =
   site    A relying party over lines of JSON; passkey site --help
   client  A client of security keys over lines of JSON; passkey client --help
 
-passkey --version prints the version.
+softkey is a security key over lines of text; softkey --help. passkey --version prints the version.
 
 Example: passkey replay < examples/sign-in.txt";
 
 const INSPECT_HELP: &str =
-    "Standard input is hex, but for clientdata, whose bytes are taken as they are. Spaces, tabs and line
-ends in hex are passed over. Packets are one a line, of 128 digits each. Bytes that are refused are told
-as a fault with its number, status 1.
+    "Standard input is hex; for clientdata it is the bytes themselves. Spaces, tabs and line ends in hex are
+ignored. Each packet is a line of 128 digits. If bytes are refused, it prints a fault with its number, and
+the status is 1.
 
 Example: echo a1 01 81 41 0a | passkey inspect cbor";
 
 const EXPLAIN_HELP: &str =
     "FILE is a case in JSON, as the inspector shows it: the browser's response, rp_id, origins and session, and of a sign-in
-the credential's row. Bytes are base64url. Each step is told in order: passed, failed or not reached. Of the one that fails it
-is told when it is refused, and what to do. The program verifies no signature: say true or false by signature_verified.
-Without that, the signature and its message are shown as not judged, and the steps after as if it is valid.
+the credential's row. Bytes are base64url. It prints each step in order: passed, failed or not reached; for the one that fails also when
+it is refused, and what to do. The program verifies no signature: set signature_verified to true or false. Without
+it, the signature and its message are printed as not judged, and the steps after them as if it were valid.
 
 The status is 0 if the response is accepted, 1 if it is refused, 2 if it is not judged.
 
