@@ -1,5 +1,5 @@
-"""A passkey relying party (WebAuthn Level 3, sections 7.1 and 7.2) whose steps are proved code, which an extension
-module calls. Signatures are verified by `cryptography`.
+"""A passkey relying party (WebAuthn Level 3, sections 7.1 and 7.2). Its steps are proved code in an extension module; `cryptography`
+verifies the signatures.
 
     server = Server("example.com", ["https://example.com"])
     options, session = server.register_begin(b"handle of the account", "name")
@@ -7,9 +7,9 @@ module calls. Signatures are verified by `cryptography`.
     options, session = server.authenticate_begin()
     signed_in = server.authenticate_complete(session, response, credential=find)
 
-`Server` keeps nothing. `KeepingServer` over a storage of the site's own, `SqlServer` over a database and `StoredServer` over a file of the
-proved program have the same four calls without look-ups, and what keeps credentials: a site changes its storage by the line that makes the
-server.
+`Server` keeps nothing. `KeepingServer` (over a storage of the site's own), `SqlServer` (over a database) and `StoredServer` (over a file of
+the proved program) have the same four calls without the look-ups, and also keep the credentials. To change its storage, a site changes only
+the line that makes the server.
 """
 from importlib import import_module
 from typing import TYPE_CHECKING, Any
@@ -35,7 +35,7 @@ __all__ = ["EDDSA", "ES256", "MAX_LIST", "RS256", "BadInput", "Credential", "Kee
 
 _LATER = {"KeepingServer": "keeping", "OpenSession": "keeping", "PasskeyServer": "keeping", "Store": "keeping", "MemoryStore": "memory",
           "RateLimit": "rate_limit", "StoreFailed": "stored", "StoredServer": "stored"}
-"""What is imported by who asks for it, and its module."""
+"""Names that are imported on first use, and their modules."""
 
 
 def __getattr__(name: str) -> Any:

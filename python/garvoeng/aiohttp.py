@@ -1,9 +1,9 @@
-"""Passkeys for a site in aiohttp: an application with a page, and what it asks (`garvoeng.web`).
+"""Passkeys for a site in aiohttp: an application with a page and the requests that the page makes (`garvoeng.web`).
 
     passkeys = Passkeys(server)
     app.add_subapp("/passkeys/", passkeys.app)
 
-`await passkeys.signed_in(request)` is the visitor's user handle then, or None.
+`await passkeys.signed_in(request)` then returns the visitor's user handle, or None.
 """
 from __future__ import annotations
 
@@ -17,7 +17,7 @@ from . import web
 
 
 async def _read(request: Request, most: int) -> bytes:
-    """So much of the body, or what was read before, as a middleware may do. It can be read again."""
+    """Up to this many bytes of the body, also if a middleware has read it before. It can be read again."""
     if request._read_bytes is None:
         body = b""
         while len(body) < most and not request.content.at_eof():
@@ -27,8 +27,8 @@ async def _read(request: Request, most: int) -> bytes:
 
 
 class Passkeys:
-    """The acts of `garvoeng.web`, as the application `app`. `server`, `accounts` and `how` are as in `garvoeng.web.Passkeys`: the functions
-    of `Accounts` take aiohttp's request, and may be `async`. The visitor's address is `request.remote`."""
+    """The acts of `garvoeng.web`, as the application `app`. `server`, `accounts` and `how` are as in `garvoeng.web.Passkeys`; the functions
+    of `Accounts` get aiohttp's request and may be `async`. The visitor's address is `request.remote`."""
 
     def __init__(self, server: Any, accounts: Any = None, **how: Any) -> None:
         self.core = web.Passkeys(server, accounts, **how)
@@ -48,14 +48,14 @@ class Passkeys:
         return response
 
     async def visitor(self, request: Request) -> Optional[web.Visitor]:
-        """Who is signed in, or None. Ask `visitor.is_fresh(300)` before a sensitive act."""
+        """The visitor who is signed in, or None. Check `visitor.is_fresh(300)` before a sensitive act."""
         return await self.core.visitor_async(self._asked(request))
 
     async def signed_in(self, request: Request) -> Optional[bytes]:
-        """The user handle of the visitor, or None."""
+        """The visitor's user handle, or None."""
         found = await self.visitor(request)
         return None if found is None else found.user
 
     async def end(self, request: Request) -> None:
-        """Ends the visitor's sign-in: for a sign-out of the site's own."""
+        """Ends the visitor's sign-in. Call it from the site's own sign-out."""
         await self.core.end_async(self._asked(request))

@@ -1,4 +1,4 @@
-"""What a host's functions may answer: `verify`, `is_registered` and `credential`."""
+"""What a host's functions may return: `verify`, `is_registered` and `credential`."""
 from __future__ import annotations
 
 import inspect
@@ -30,24 +30,24 @@ def refuse(what: str, said: Any, wanted: str, awaited_in: str = "the call whose 
 
 
 def is_true(what: str, said: Any) -> bool:
-    """True or False, and nothing that counts as one of them."""
+    """The value, if it is True or False. Raises TypeError for any other."""
     if said is True or said is False:
         return bool(said)
     refuse(what, said, "True or False")
 
 
 async def awaited(said: Any) -> Any:
-    """What is awaited, if it can be."""
+    """Awaits the value if it can be awaited."""
     return await said if inspect.isawaitable(said) else said
 
 
 class _Asked(Exception):
-    """An answer has to be awaited before the verdict goes on."""
+    """An answer has to be awaited before the verdict can go on."""
 
 
 async def judged(verify: Verify, judge: Callable[[Verify], Answered]) -> Answered:
-    """What `judge` says by `verify`, whose answer is awaited if it can be. Then `judge` is called again, with that answer for the same
-    signature."""
+    """Runs `judge` with `verify`, and awaits what `verify` returns if it can be awaited. `judge` is then called again, with that answer for
+    the same signature."""
     asked: List[Tuple[Tuple[Any, ...], Awaitable[Any]]] = []
 
     def first(*words: Any) -> Any:
@@ -73,13 +73,13 @@ def _called(loop: asyncio.AbstractEventLoop, call: Callable[[], Answered]) -> An
 
 
 async def in_thread(call: Callable[..., Answered], *words: Any, **named: Any) -> Answered:
-    """Makes a call in a thread of the loop. What `verify` gives there is awaited by the loop, if it can be."""
+    """Makes a call in a thread of the loop. What `verify` returns there is awaited by the loop, if it can be."""
     import asyncio  # which takes longer to import than all else that a site without a loop has
     return await asyncio.to_thread(_called, asyncio.get_running_loop(), partial(call, *words, **named))
 
 
 def waiting(verify: Verify) -> Verify:
-    """`verify` as a call takes it: in a call of `in_thread` one that waits for the loop."""
+    """`verify` in the form that a call takes: within `in_thread`, one that waits for the loop."""
     loop = _LOOP.get()
     if loop is None:
         return verify

@@ -1,5 +1,5 @@
-"""One run of the proved program for several processes: a broker, which has the program and a Unix socket of its user. Of each process that
-connects it hands lines on, and to each the answers to its own: the program answers in the order of the lines."""
+"""One run of the proved program for several processes: a broker runs the program and listens on a Unix socket of its user. It passes lines
+from each connected process to the program, and each answer to the process that asked: the program answers in the order of the lines."""
 from __future__ import annotations
 
 import fcntl
@@ -21,17 +21,17 @@ from queue import SimpleQueue
 from typing import Deque, Dict, Generator, Iterator, Optional, Sequence
 
 MAX_LINE = 65_536
-"""The most bytes of a line that the program takes."""
+"""The longest line that the program takes, in bytes."""
 MAX_PATH = 107
-"""The most bytes of a socket's path (unix(7))."""
+"""The longest path of a socket, in bytes (unix(7))."""
 IDLE = 2.0
-"""How many seconds a broker stays to which nobody is connected."""
+"""How many seconds a broker stays when nobody is connected."""
 STUCK = 2.0
-"""How many seconds one may take to read what it asked for."""
+"""How many seconds a process may take to read its answers."""
 ENDING = 30.0
 """How many seconds the program may take to close its file."""
 _NOTE = b"!"
-"""Before what the program told on standard error. An answer begins with a brace."""
+"""Comes before a line from standard error. An answer begins with a brace."""
 
 
 def _folder() -> Path:
@@ -56,7 +56,7 @@ def path_of(words: Sequence[str]) -> Path:
 
 @contextmanager
 def _locked(path: Path) -> Iterator[None]:
-    """While nobody else starts or ends a broker of this socket."""
+    """Holds a lock, so that nobody else starts or ends a broker of this socket."""
     with open(path.with_suffix(".lock"), "wb") as lock:
         fcntl.flock(lock, fcntl.LOCK_EX)
         yield
@@ -80,7 +80,7 @@ def _connected(path: Path) -> Optional[socket.socket]:
 
 
 class Connection:
-    """A connection to a broker, which is started where there is none. It has what is asked of a `subprocess.Popen`."""
+    """A connection to a broker, which is started if there is none. It has the members of `subprocess.Popen` that are used here."""
 
     def __init__(self, words: Sequence[str], timeout: float = 30.0) -> None:
         path = path_of(words)
@@ -126,7 +126,7 @@ class Connection:
         return 0 if self._has_ended else None
 
     def kill(self) -> None:
-        """Ends the connection, and not the program, which others share."""
+        """Ends the connection, but not the program, which others share."""
         try:
             self._socket.shutdown(socket.SHUT_RDWR)
         except OSError:
@@ -137,7 +137,7 @@ class Connection:
         return 0
 
     def forget(self) -> None:
-        """In a child of the process that has it: closes the child's own handle, by which the parent's is not changed."""
+        """In a child process: closes the child's copy of the handle. The parent's stays open."""
         handle = self._socket.detach()
         if handle >= 0:
             os.close(handle)
@@ -178,7 +178,7 @@ class _Broker:
             peer.close()
 
     def _tell(self, peer: socket.socket, line: bytes) -> None:
-        """Sends nothing to one that has gone, and lets go of one that does not read."""
+        """Sends bytes. Skips a connection that has gone, and closes one that does not read."""
         if peer in self.peers:
             try:
                 peer.sendall(line)
@@ -186,7 +186,7 @@ class _Broker:
                 self._drop(peer)
 
     def _hear(self, peer: socket.socket) -> None:
-        """Takes whole lines. Who sends what is no line is let go."""
+        """Reads whole lines. A connection that sends anything else is closed."""
         try:
             data = peer.recv(65_536)
         except OSError:
@@ -208,7 +208,7 @@ class _Broker:
                 self._tell(peer, self.notes[-1])
 
     def _answer(self) -> bool:
-        """Hands answers on; false where the program is to be started anew: it has ended, or it failed."""
+        """Passes answers to the connections. Returns false if the program has ended or failed, and so has to be started anew."""
         data = os.read(self.stdout, 65_536)
         *lines, self.answered = (self.answered + data).split(b"\n")
         failed = not data
@@ -218,7 +218,7 @@ class _Broker:
         return not failed
 
     def _serve(self) -> bool:
-        """Until nobody is left, which is true, or the program is to be started anew."""
+        """Returns true once nobody is left, or false if the program has to be started anew."""
         idle = time.monotonic()
         while True:
             writing = [self.stdin] if self.unwritten else []
@@ -240,7 +240,7 @@ class _Broker:
                 return True
 
     def _is_left(self) -> bool:
-        """Whether nobody came until the socket had gone. Who came in between is served."""
+        """Whether nobody connected before the socket was gone. Anyone who connected in between is served."""
         gone = self.path.with_suffix(".gone")
         self.path.rename(gone)
         if select.select([self.listening], [], [], 0)[0]:
@@ -256,7 +256,7 @@ class _Broker:
             return False
 
     def run(self) -> None:
-        """Ends with the program. Until that has closed its file nobody starts another broker."""
+        """Runs until the program ends. Nobody starts another broker until the program has closed its file."""
         while True:
             nobody = self._served()
             with _locked(self.path):

@@ -1,10 +1,10 @@
-"""A client of security keys: it registers and signs in with a key on USB, with its PIN where it has one (WebAuthn Level 2, section 5.1;
-CTAP 2.1). What is sent to the key, and what is read of its replies, the program `passkey client` does, which runs beside this process.
+"""A client of security keys: registers and signs in with a USB key, and with its PIN if it has one (WebAuthn Level 2, section 5.1; CTAP
+2.1). The program `passkey client`, which runs beside this process, writes the requests to the key and reads its replies.
 
     with Client(security_keys()[0], "https://example.com", pin=lambda retries, wrong: getpass()) as client:
         response = client.create(options)
 
-`python -m garvoeng.client --help` is the same at a terminal.
+`python -m garvoeng.client --help` does the same at a terminal.
 """
 from __future__ import annotations
 
@@ -22,41 +22,41 @@ from .hid import HidMissing, SecurityKey, security_keys
 __all__ = ["Client", "ClientFailed", "ClientRefused", "HidMissing", "Key", "KeyLost", "SecurityKey", "security_keys"]
 
 CANCEL_SECONDS = 2.0
-"""How long a key may take to answer that it gave up."""
+"""How many seconds a key may take to confirm that it gave up."""
 _LOOKS = 0.1
-"""How often, in seconds, a wait for the key looks whether it was cancelled."""
+"""How often, in seconds, a wait for the key checks whether it was cancelled."""
 _BUILT_IN_FAILED = (0x36, 0x3C, 0x3F)
-"""The statuses of a key whose own verification failed, so that a PIN is wanted (CTAP 2.1, section 8.2)."""
+"""The statuses of a key whose own verification failed, so that a PIN is needed (CTAP 2.1, section 8.2)."""
 
 Pin = Callable[[Optional[int], bool], Optional[str]]
-"""Gives the user's PIN, or None if the user gives none. Its parameters are how many attempts the key has left, if the key says so, and
+"""Returns the user's PIN, or None if the user gives none. Its parameters are how many attempts the key has left, if the key says so, and
 whether a PIN was just refused."""
 Choose = Callable[[List[Dict[str, Any]]], Optional[int]]
-"""The place of one of several credentials, from 0, or None. Each has `id`, `user_id`, `user_name` and `display_name`; None where the
-key did not tell it."""
+"""Returns the position of one of several credentials, from 0, or None. Each has `id`, `user_id`, `user_name` and `display_name`, which are
+None if the key does not report them."""
 
 
 class Key(Protocol):
-    """A key, by packets of CTAPHID (CTAP 2.1, section 11.2). OSError of either call says that it is gone."""
+    """A key that exchanges CTAPHID packets (CTAP 2.1, section 11.2). Either call raises OSError if the key is gone."""
 
     def write(self, packet: bytes) -> Any:
-        """Takes a packet of 64 bytes to the key."""
+        """Sends a packet of 64 bytes to the key."""
 
     def read(self, timeout: float) -> bytes:
-        """The key's next packet; TimeoutError where none comes in `timeout` seconds."""
+        """Returns the key's next packet. Raises TimeoutError if none comes within `timeout` seconds."""
 
 
 class ClientRefused(Exception):
-    """The key, the client or the user refuses: `name` says why in one word, `text` in a sentence.
+    """The key, the client or the user refused: `name` gives the reason in one word, `text` in a sentence.
 
-    Before anything is sent: `bad_origin`, `rp_id_not_of_origin`, `unfit` (no key can be asked for these options). Of the user: `cancelled`,
-    `timeout`, `pin_needed`, `choice_needed`. Of PINs: `pin_blocked` (the key has to be reset), `power_cycle` (it has to be plugged in anew),
-    `pin_not_set`, `pin_already_set`, `pin_not_offered`, `pin_too_short`, `pin_too_long`, `pin_ends_in_zero`, `pin_invalid`. Of what the key
-    has: `u2f_only`, `no_verification`, `no_protocol`, `option_not_offered`, `list_too_long`, `id_too_long`, `message_too_long`. Of what it
-    sent: `status` (it refused by `status`, a byte of CTAP 2.1, section 8.2: 0x19, it has a credential of the excluded; 0x27, the user
-    declined; 0x2E, it has no credential for this), `not_readable`, `bad_point`, `bad_token`, `device_error`, `channel_dead`,
-    `too_many_replies`. Of the host: `memory`, `bad_answer`. Of other names `status` is None, but of a
-    `cancelled` that the key said by itself."""
+    Before anything is sent: `bad_origin`, `rp_id_not_of_origin`, `unfit` (no key can be asked for these options). By the user: `cancelled`,
+    `timeout`, `pin_needed`, `choice_needed`. PINs: `pin_blocked` (the key has to be reset), `power_cycle` (it has to be plugged in anew),
+    `pin_not_set`, `pin_already_set`, `pin_not_offered`, `pin_too_short`, `pin_too_long`, `pin_ends_in_zero`, `pin_invalid`. What the key
+    lacks or cannot take: `u2f_only`, `no_verification`, `no_protocol`, `option_not_offered`, `list_too_long`, `id_too_long`,
+    `message_too_long`. What the key sent: `status` (it refused with `status`, a byte of CTAP 2.1, section 8.2: 0x19, it has a credential of
+    the excluded; 0x27, the user declined; 0x2E, it has no credential for this), `not_readable`, `bad_point`, `bad_token`, `device_error`,
+    `channel_dead`, `too_many_replies`. The host: `memory`, `bad_answer`. For names other than `status`, `status` is None, except for a
+    `cancelled` that the key reported by itself."""
 
     def __init__(self, name: str, text: str, status: Optional[int] = None) -> None:
         self.name, self.text, self.status = name, text, status
@@ -67,7 +67,7 @@ class ClientRefused(Exception):
 
 
 class KeyLost(Exception):
-    """The key was pulled out, can't be opened, or its packets have not 64 bytes. What was asked of it is done or is not."""
+    """The key was pulled out, can't be opened, or does not use packets of 64 bytes. The operation may or may not have been completed."""
 
 
 def _pin_of(pin: Any) -> str:
@@ -81,23 +81,23 @@ def _pin_of(pin: Any) -> str:
 
 
 class Client:
-    """A client for one key and the pages of one origin, as `https://example.com`.
+    """A client for one key and the pages of one origin, such as `https://example.com`.
 
     `program` is the path of `passkey-client`, or the words that run it. `pin(retries, wrong)` asks the user for the PIN: `retries` is how
-    many attempts the key has left, or None, and `wrong` whether a PIN was just refused; without it an act that needs a PIN is refused as `pin_needed`.
-    `touch()` is called once each time the user has to touch the key. `choose(credentials)` asks which of several credentials to
-    use, by its place from 0; each has `id`, `user_id`, `user_name` and `display_name`. Without it several are refused as `choice_needed`. If a
-    callback returns None, the call is refused as `cancelled`. The three are called in the caller's thread.
+    many attempts the key has left, or None, and `wrong` says whether a PIN was just refused; without it an act that needs a PIN is refused
+    as `pin_needed`. `touch()` is called each time the user has to touch the key. `choose(credentials)` returns the position, from 0, of the
+    credential to use; each has `id`, `user_id`, `user_name` and `display_name`. Without it several credentials are refused as
+    `choice_needed`. If a callback returns None, the call is refused as `cancelled`. All three are called in the caller's thread.
 
-    With `built_in` false the key's own verification, as by a finger, is not used; where it fails the PIN is asked for. A call waits for
-    the key for `timeout` seconds in all, and not longer than the options' `timeout`, which is milliseconds; then the key has to give
-    up, and the call is refused as `timeout`. The time that the user takes for a PIN or a choice does not count.
+    If `built_in` is false, the key's own verification, such as a fingerprint reader, is not used; if it fails, the client asks for the PIN.
+    A call waits for the key for `timeout` seconds in all, and no longer than the options' `timeout`, which is in milliseconds; then the key
+    has to give up, and the call is refused as `timeout`. The time that the user takes for a PIN or a choice does not count.
 
-    Calls of several threads come one after another. The key is lent: it is not closed. PINs are sent to the program and kept nowhere; no
-    exception has one in its text.
+    Calls from several threads run one after another. The key is lent: the client does not close it. PINs are sent to the program and kept
+    nowhere; no exception has one in its text.
 
-    Each call raises `ClientRefused`, `KeyLost`, `ClientFailed`, and `BadInput` of what is no value of JSON or longer than 65,536 bytes.
-    Ctrl-C tells the key to give up, and goes on as KeyboardInterrupt.
+    Each call raises `ClientRefused`, `KeyLost`, `ClientFailed`, and `BadInput` for a value that is not JSON or is longer than 65,536 bytes.
+    Ctrl-C makes the key give up, and then raises KeyboardInterrupt.
     """
 
     def __init__(self, key: Key, origin: str, *, program: Union[str, Sequence[str]] = "passkey-client", pin: Optional[Pin] = None,
@@ -115,7 +115,7 @@ class Client:
         self._forget()
 
     def _forget(self) -> None:
-        """What is known of a call, before it."""
+        """Resets what is known of a call."""
         self._channel = b""
         self._is_under_way = False
         self._gives_up: Optional[str] = None
@@ -127,35 +127,36 @@ class Client:
     # ---- what is asked
 
     def create(self, options: Mapping[str, Any]) -> Dict[str, Any]:
-        """Registers: the RegistrationResponseJSON to PublicKeyCredentialCreationOptionsJSON (WebAuthn Level 3, section 5.1), for the site."""
+        """Registers. Takes PublicKeyCredentialCreationOptionsJSON and returns the RegistrationResponseJSON for the site (WebAuthn Level 3,
+        section 5.1)."""
         return self._ceremony("register", options)
 
     def get(self, options: Mapping[str, Any]) -> Dict[str, Any]:
-        """Signs in: the AuthenticationResponseJSON to PublicKeyCredentialRequestOptionsJSON, for the site."""
+        """Signs in. Takes PublicKeyCredentialRequestOptionsJSON and returns the AuthenticationResponseJSON for the site."""
         return self._ceremony("sign_in", options)
 
     def information(self) -> Dict[str, Any]:
-        """What the key tells of itself (CTAP 2.1, section 6.4): `versions`, `extensions`, `aaguid`, `options`, `max_message` in bytes,
+        """What the key reports of itself (CTAP 2.1, section 6.4): `versions`, `extensions`, `aaguid`, `options`, `max_message` in bytes,
         `protocols`, `max_credentials_in_list`, `max_credential_id_length` in bytes, `transports`, `algorithms`, `min_pin_length` in code
-        points, `firmware_version` and `remaining_credentials`; None of what it does not tell."""
+        points, `firmware_version` and `remaining_credentials`; None for what it does not report."""
         told = self._called("information", "information")
         return {name: value for name, value in told.items() if name not in ("state", "send")}
 
     def set_pin(self, new: str) -> None:
-        """Gives a key without a PIN its first one: at least the key's `min_pin_length` code points, or 4, and at most 63 bytes of UTF-8."""
+        """Sets the first PIN of a key without one: at least the key's `min_pin_length` code points, or 4, and at most 63 bytes of UTF-8."""
         self._called("set_pin", "pin_set", new_pin=_pin_of(new))
 
     def change_pin(self, new: str) -> None:
-        """Gives a key another PIN, of the lengths of `set_pin`. `pin` is asked for the old one."""
+        """Changes a key's PIN; the lengths are as in `set_pin`. `pin` is asked for the old one."""
         self._called("change_pin", "pin_set", new_pin=_pin_of(new))
 
     def cancel(self) -> None:
-        """Tells the key, from another thread, to give up what is under way; the call ends as `cancelled`, or with its answer where this
-        came first. Nothing where none is under way."""
+        """Makes the key, from another thread, give up the operation under way. The call ends as `cancelled`, or with its answer if this
+        came first. Does nothing if none is under way."""
         self._give_up("cancelled")
 
     def close(self) -> None:
-        """Ends the program. A call that comes later starts it again."""
+        """Ends the program. A later call starts it again."""
         with self._using, self._speaking:
             program, self._program = self._program, None
             if program is not None:
@@ -188,14 +189,14 @@ class Client:
         return response
 
     def _called_by_pin(self, refused: ClientRefused, act: str, *how: Any, **members: Any) -> Dict[str, Any]:
-        """The act once more, by the PIN. A key without one stays refused as it was."""
+        """Repeats the act with the PIN. A key without one stays refused as before."""
         try:
             return self._called(act, *how, built_in=False, **members)
         except ClientRefused as again:
             raise refused if again.name == "no_verification" else again from None
 
     def _called(self, act: str, state: str, seconds: Optional[float] = None, **members: Any) -> Dict[str, Any]:
-        """The last answer of an act, which has this state."""
+        """The last answer of an act that is in this state."""
         with self._using:
             try:
                 self._begin(min(self.timeout if seconds is None else seconds, self.timeout))
@@ -223,7 +224,7 @@ class Client:
             self._is_under_way = True
 
     def _next(self, answer: Dict[str, Any]) -> Dict[str, Any]:
-        """One step on."""
+        """One more step."""
         state = answer["state"]
         if state in ("waits", "touch"):
             self._tell_touch(state == "touch")
@@ -238,7 +239,7 @@ class Client:
         return self._say(act, **members)
 
     def _answered(self, state: str, answer: Dict[str, Any]) -> Tuple[str, Dict[str, Any]]:
-        """What this host and its user answer to the program."""
+        """What this host and its user reply to the program."""
         if state == "needs_pin":
             return "pin", {"pin": self._asked_pin(answer)}
         if state == "asks":
@@ -250,7 +251,7 @@ class Client:
     # ---- lines and packets
 
     def _say(self, act: str, **members: Any) -> Dict[str, Any]:
-        """A line, and the packets of its answer written to the key. Raises the refusal that it is."""
+        """Sends a line, and writes the packets of its answer to the key. Raises the refusal if the answer is one."""
         with self._speaking:
             if self._failure is not None:
                 raise self._failure
@@ -281,7 +282,7 @@ class Client:
         return ClientRefused(str(answer.get("name")), str(answer.get("text")), answer.get("status"))
 
     def _heard(self) -> Dict[str, Any]:
-        """What the program says to the key's next packet."""
+        """What the program replies to the key's next packet."""
         while True:
             if self._failure is not None:
                 raise self._failure
@@ -307,7 +308,7 @@ class Client:
         return ClientRefused("cancelled", "it was cancelled")
 
     def _give_up(self, name: str) -> None:
-        """Tells the key to give up, from any thread."""
+        """Makes the key give up, from any thread."""
         with self._speaking:
             if not self._is_under_way or self._gives_up is not None:
                 return
@@ -320,7 +321,7 @@ class Client:
                     self._failure = failure
 
     def _let_go(self) -> None:
-        """Ends the key's work after whatever ended a call: makes a key that works on it give up, and reads its answer."""
+        """Ends the key's work after a call ended for any reason: makes a key that is still working give up, and reads its answer."""
         if not self._is_waiting or not self._channel:
             return
         try:

@@ -21,7 +21,7 @@ ALGORITHMS = (-7, -8, -257)
 
 
 class _Wrong(Exception):
-    """What ends the command with a status."""
+    """An error that ends the command with a status."""
 
     def __init__(self, status: int, text: str) -> None:
         self.status = status
@@ -29,7 +29,7 @@ class _Wrong(Exception):
 
 
 def _plain(text: str) -> str:
-    """A text that a key may have told, without what moves a terminal."""
+    """A text that a key may have sent, without characters that control a terminal."""
     return "".join(one if one.isprintable() else "?" for one in text)
 
 
@@ -81,7 +81,7 @@ def _key(path: Optional[str]) -> SecurityKey:
 
 
 def _options(words: argparse.Namespace) -> Dict[str, Any]:
-    """The options of the file, or some with a challenge of their own."""
+    """The options in the file, or default ones with a challenge of their own."""
     if words.options is not None:
         try:
             with (sys.stdin if words.options == "-" else open(words.options, encoding="utf-8")) as file:
@@ -130,7 +130,7 @@ def _words(words: Optional[Sequence[str]]) -> argparse.Namespace:
 
 
 def _done(words: argparse.Namespace) -> Any:
-    """What the command gives to print."""
+    """What the command prints."""
     if words.command == "list":
         found = security_keys()
         if not found:
@@ -159,7 +159,7 @@ def _print(value: Any) -> None:
 
 
 def main(words: Optional[Sequence[str]] = None) -> int:
-    """The status of the command of these words, or of the process's own."""
+    """Runs the command of these words, or of the process's own, and returns the status."""
     read = _words(words)
     try:
         made = _done(read)

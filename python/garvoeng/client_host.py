@@ -1,4 +1,4 @@
-"""What the program asks its host to compute of a PIN (CTAP 2.1, sections 6.5.6 and 6.5.7), by `cryptography`."""
+"""The computations for a PIN that the program leaves to its host (CTAP 2.1, sections 6.5.6 and 6.5.7), by `cryptography`."""
 from __future__ import annotations
 
 import os
@@ -11,7 +11,7 @@ from cryptography.hazmat.primitives.kdf.hkdf import HKDF
 
 
 class BadPoint(ValueError):
-    """The key told a point that does not lie on the curve."""
+    """The key sent a point that does not lie on the curve."""
 
 
 def _bytes_of(point: ec.EllipticCurvePublicNumbers) -> bytes:
@@ -19,7 +19,7 @@ def _bytes_of(point: ec.EllipticCurvePublicNumbers) -> bytes:
 
 
 def _agree(key: bytes, iv: bytes, text: bytes) -> bytes:
-    """A new public key on P-256, x and y, and the x of its private key's product with the point `text`: 96 bytes."""
+    """A new public key on P-256, x and y, and the x of the product of its private key and the point `text`: 96 bytes."""
     if len(text) != 64:
         raise ValueError("a point has 64 bytes")
     x, y = (int.from_bytes(part, "big") for part in (text[:32], text[32:]))
@@ -47,7 +47,7 @@ def _decrypt(key: bytes, iv: bytes, text: bytes) -> bytes:
 
 
 def _seal(key: bytes, iv: bytes, text: bytes) -> bytes:
-    """Under a new IV, which stands before the ciphertext."""
+    """Encrypts under a new IV, which comes before the ciphertext."""
     iv = os.urandom(16)
     return iv + _encrypt(key, iv, text)
 
@@ -63,5 +63,6 @@ _OPERATIONS: Dict[str, Callable[[bytes, bytes, bytes], bytes]] = {
 
 
 def computed(operation: str, key: bytes, iv: bytes, text: bytes) -> bytes:
-    """The answer to an ask. Raises `BadPoint`, and ValueError of sizes that the operation does not have; KeyError of another one."""
+    """The answer to a request of the program. Raises `BadPoint`, ValueError for sizes that the operation does not have, and KeyError for an
+    unknown operation."""
     return _OPERATIONS[operation](key, iv, text)

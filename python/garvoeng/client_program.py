@@ -1,4 +1,4 @@
-"""The program `passkey client`, which runs beside this process: each line of JSON that it is asked it answers by one."""
+"""The program `passkey client`, which runs beside this process and answers each line of JSON with one line."""
 from __future__ import annotations
 
 import itertools
@@ -15,25 +15,25 @@ from .errors import BadInput
 from .hid import is_ready
 
 PACKET = 64
-"""How many bytes a packet has (CTAP 2.1, section 11.2.4)."""
+"""The size of a packet in bytes (CTAP 2.1, section 11.2.4)."""
 MAX_ANSWER = 1 << 20
-"""The most bytes of an answer."""
+"""The longest answer, in bytes."""
 ANSWER_SECONDS = 10.0
-"""How long the program may take for an answer."""
+"""How many seconds the program may take for an answer."""
 
 
 class ClientFailed(Exception):
-    """The program could not be started, ended before it answered, did not answer in time, or gave an answer that can't be read. The key
-    may or may not have done what it was asked. The next call starts the program again."""
+    """The program could not be started, ended before it answered, did not answer in time, or gave an answer that can't be read. The key may
+    or may not have done what it was asked. The next call starts the program again."""
 
 
 def no_answer() -> ClientFailed:
-    """That an answer has not the members or the values of its kind."""
+    """The error for an answer without the members or values of its kind."""
     return ClientFailed("the program answered what is no answer")
 
 
 def packets_of(answer: Dict[str, Any]) -> List[bytes]:
-    """The packets that are to be written to the key."""
+    """The packets to write to the key."""
     sent = answer.get("send", [])
     try:
         packets = [forms.from_text(one, "send") for one in sent]
@@ -45,7 +45,7 @@ def packets_of(answer: Dict[str, Any]) -> List[bytes]:
 
 
 class Program:
-    """A run of the program. It is called by one thread at a time."""
+    """A run of the program. Only one thread at a time calls it."""
 
     def __init__(self, words: Sequence[str]) -> None:
         try:
@@ -59,8 +59,8 @@ class Program:
         self.has_ended = False
 
     def ask(self, act: str, **members: Any) -> Dict[str, Any]:
-        """The answer to a line. Whatever goes wrong ends the program, so that no answer is ever taken for another line's. Raises
-        `ClientFailed`, and `BadInput` of what is no line."""
+        """Returns the answer to a line. Any failure ends the program, so that no answer is ever taken for another line's. Raises
+        `ClientFailed`, and `BadInput` for a value that is not a line."""
         number = next(self.numbers)
         try:
             line = json.dumps({"id": number, "act": act, **members}, allow_nan=False).encode() + b"\n"
@@ -110,7 +110,7 @@ class Program:
         return line
 
     def _ended(self) -> ClientFailed:
-        """What it said last is the cause, where it said something."""
+        """The failure; its cause is the program's last message, if any."""
         told = os.read(self.stderr.fileno(), 4_096) if is_ready(self.stderr.fileno(), 1) else b""
         said = told.decode(errors="replace").strip().splitlines()
         return ClientFailed(": ".join(["the program ended before it answered", *said[-1:]]))
@@ -119,7 +119,7 @@ class Program:
         return not self.has_ended and self.process.poll() is None
 
     def end(self, timeout: float = 2.0) -> None:
-        """Ends its input, by which it ends; after `timeout` seconds it is killed."""
+        """Ends the program's input, which ends the program; after `timeout` seconds it is killed."""
         self.has_ended = True
         try:
             self.stdin.close()

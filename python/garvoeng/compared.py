@@ -1,4 +1,4 @@
-"""The bytes that each step looks at: what the response says beside what is expected. They are shown, and judge nothing."""
+"""The bytes that each step looks at: those of the response beside those expected. They are only shown; nothing here verifies them."""
 from __future__ import annotations
 
 import json
@@ -16,7 +16,7 @@ _OUTSIDE = re.compile(r"[^\x20-\x7e]")
 
 
 class Asked(NamedTuple):
-    """The signature that the library asked to be verified, and what was found."""
+    """The signature that the library asked to be verified, and the result."""
 
     algorithm: int
     x: bytes
@@ -27,7 +27,7 @@ class Asked(NamedTuple):
 
 
 class Facts(NamedTuple):
-    """What is known of a response and of what is given beside it. `session` is of either kind, or None."""
+    """What is known of a response and its surroundings. `session` is of either kind, or None."""
 
     given: Dict[str, Any]
     session: Any
@@ -46,7 +46,7 @@ def _escaped(letter: "re.Match[str]") -> str:
 
 
 def _json_text(value: Any) -> str:
-    """A value of JSON in one spelling, in which letters that look alike do not."""
+    """A JSON value in a single form, in which letters that look alike differ."""
     return _OUTSIDE.sub(_escaped, json.dumps(value, ensure_ascii=False, separators=(",", ":")))
 
 
@@ -133,7 +133,7 @@ def _verified(facts: Facts) -> List[Line]:
 
 
 def _signature(facts: Facts, other: Line) -> List[Line]:
-    """What the library asked to be verified, and what was found."""
+    """The signature that the library asked to be verified, and the result."""
     if facts.asked is None:
         return [other, _text("the verifier", "was not asked")]
     algorithm, x, y, message, signature, valid = facts.asked
@@ -229,6 +229,6 @@ _TABLES: Dict[str, Dict[str, Compared]] = {
 
 
 def compared_at(kind: str, name: str, facts: Facts) -> List[Line]:
-    """What a step of this name looks at, as texts and as digits; nothing of a step that is not known."""
+    """What a step of this name looks at, as text and as hexadecimal digits; nothing for an unknown step."""
     found = _TABLES[kind].get(name)
     return [] if found is None else found(facts)

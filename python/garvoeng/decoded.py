@@ -1,4 +1,4 @@
-"""What stands in a response, as it is shown, in values of JSON. Nothing here judges it: that is the library's."""
+"""The contents of a response for display, as JSON values. Nothing here verifies it: the library does."""
 from __future__ import annotations
 
 import base64
@@ -19,19 +19,19 @@ _CURVES = {"1": "P-256", "2": "P-384", "3": "P-521", "6": "Ed25519", "7": "Ed448
 
 
 class Special(NamedTuple):
-    """An item of CBOR that is no value of Python's: a tag, a float, another simple value."""
+    """A CBOR item that has no Python value: a tag, a float, another simple value."""
 
     text: str
 
 
 class Entries:
-    """A map of CBOR, whose keys may be any items, and may repeat."""
+    """A CBOR map. Its keys may be any items, and may repeat."""
 
     def __init__(self, pairs: Sequence[Tuple[Any, Any]]) -> None:
         self.pairs = pairs
 
     def get(self, key: Any) -> Any:
-        """The value of the first pair with this number or text as its key, or `Special` without a text."""
+        """The value of the first pair whose key is this number or text, or `Special` without a text."""
         return next((value for one, value in self.pairs if type(one) is type(key) and one == key), _ABSENT)
 
 
@@ -56,7 +56,7 @@ def _float(number: float) -> str:
 
 
 def item_at(value: bytes, at: int, depth: int = 0) -> Tuple[Any, int]:
-    """The item of CBOR that begins at an offset, and where it ends. Raises ValueError where there is none."""
+    """The CBOR item at an offset, and where it ends. Raises ValueError if there is none."""
     if depth > _DEEPEST or at >= len(value) or value[at] & 31 > 27:
         raise _fault(at)
     major, short = value[at] >> 5, value[at] & 31
@@ -109,7 +109,7 @@ def diagnostic(value: Any) -> str:
 
 
 def algorithm_text(number: str) -> str:
-    """What a COSE key or a statement names an algorithm by, in diagnostic notation, with its name."""
+    """The algorithm that a COSE key or a statement names, in diagnostic notation, with its name."""
     return f"{_ALGORITHMS[number]} ({number})" if number in _ALGORITHMS else number
 
 
@@ -127,12 +127,12 @@ def _nests(value: Any, depth: int) -> bool:
 
 
 def shallow(value: Any) -> Any:
-    """A value of JSON as it is shown: None in place of one that nests deeper than can be shown."""
+    """A JSON value for display, with None in place of one that nests too deep to show."""
     return None if _nests(value, _DEEPEST_SHOWN) else value
 
 
 def client_data_of(value: bytes) -> Dict[str, Any]:
-    """The client data: its text, what it says where it is an object of JSON, and what is wrong with it where it is none."""
+    """The client data: its text, its members if it is a JSON object, and what is wrong with it if it is not."""
     made: Dict[str, Any] = {"size": len(value), "text": None, "members": None, "fault": None}
     try:
         made["text"] = value.decode()
@@ -150,7 +150,7 @@ def client_data_of(value: bytes) -> Dict[str, Any]:
 
 
 def flags_text(byte: int) -> str:
-    """The flags that are set, by their names."""
+    """The names of the flags that are set."""
     return ", ".join(name for bit, (name, _) in enumerate(_FLAGS) if byte >> bit & 1) or "none is set"
 
 
@@ -179,7 +179,7 @@ def _key_of(value: bytes, item: Any, is_canonical: IsCanonical) -> Dict[str, Any
 
 
 def _attested_of(value: bytes, is_canonical: IsCanonical) -> Tuple[Dict[str, Any], int]:
-    """What is attested, from byte 37 of authenticator data on, and where it ends."""
+    """The attested credential data, from byte 37 of the authenticator data on, and where they end."""
     if len(value) < 55:
         raise ValueError(f"at byte {len(value)} it ends, before the credential id")
     size = int.from_bytes(value[53:55], "big")
@@ -191,7 +191,7 @@ def _attested_of(value: bytes, is_canonical: IsCanonical) -> Tuple[Dict[str, Any
 
 
 def authenticator_data_of(value: bytes, is_canonical: IsCanonical) -> Dict[str, Any]:
-    """Authenticator data as far as they can be read, and what is wrong where they can't. `is_canonical` is the library's."""
+    """Authenticator data as far as they can be read, and what is wrong if they can't. `is_canonical` is the library's."""
     made: Dict[str, Any] = {"size": len(value), "rp_id_hash": None, "flags": None, "sign_count": None, "attested": None,
                             "extensions": None, "fault": None}
     if len(value) < 37:
@@ -219,8 +219,8 @@ def _pem(value: bytes) -> str:
 
 
 def attestation_of(value: bytes, is_canonical: IsCanonical) -> Tuple[Dict[str, Any], bytes]:
-    """An attestation object as far as it can be read, its format and statement, with its certificates as they are; and its authenticator
-    data."""
+    """An attestation object as far as it can be read: its format and its statement, with the certificates as they are, and its
+    authenticator data."""
     made: Dict[str, Any] = {"size": len(value), "canonical": is_canonical(value), "format": None, "statement": None, "algorithm": None,
                             "signature": None, "certificates": [], "auth_data": None, "fault": None}
     try:

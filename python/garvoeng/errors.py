@@ -1,4 +1,4 @@
-"""Why a response or an input is refused."""
+"""Errors: why a response or an input is refused."""
 from __future__ import annotations
 
 from typing import Any, Tuple
@@ -16,18 +16,18 @@ REGISTRATION_STEPS = (
 
 
 class Refused(Exception):
-    """A response is refused at a step of section 7.1 (registration) or 7.2 (sign-in) of WebAuthn, the first that it
-    does not pass."""
+    """A response is refused. The step is the first one of section 7.1 (registration) or 7.2 (sign-in) of WebAuthn that the response does
+    not pass."""
 
     def __init__(self, is_registration: bool, number: int, text: str) -> None:
         self.is_registration = is_registration
         self.number = number
-        """1 to 18, and 19 of a registration."""
+        """1 to 18, or to 19 for a registration."""
         steps = REGISTRATION_STEPS if is_registration else SIGN_IN_STEPS
         self.step = steps[number - 1] if number <= len(steps) else f"Step{number}"
         """The name of the step."""
         self.name = f"{'G' if is_registration else 'W'}{number}"
-        """As the program prints it: G and the number for a registration, W for a sign-in."""
+        """The name as the program prints it: G and the number for a registration, W for a sign-in."""
         self.text = text
         super().__init__(f"{self.name} {self.step}: {text}")
 
@@ -36,11 +36,11 @@ class Refused(Exception):
 
 
 class BadInput(ValueError):
-    """A value is out of its limits: of the site's own, or no response in the form of JSON."""
+    """A value is out of its limits: one of the site's own, or a response that is not in the form of JSON."""
 
     def __init__(self, text: str, number: int = 0) -> None:
         self.number = number
-        """The number of the answer, 100 and up; 0 where the library was not asked."""
+        """The number of the answer, 100 and up; 0 if the library was not asked."""
         self.text = text
         super().__init__(text)
 
@@ -49,8 +49,8 @@ class BadInput(ValueError):
 
 
 class RowDamaged(Exception):
-    """A credential's row is none that this package writes: the site's to mend, and no fault of the visitor's. The logger `garvoeng` has
-    it, but of `Server`, whose look-up gave it."""
+    """A credential's row is not one that this package writes: the site has to repair it, and the visitor is not at fault. It is logged to
+    `garvoeng`, except by `Server`, whose look-up returned it."""
 
     def __init__(self, id: Any, text: str) -> None:
         self.id = id
@@ -65,7 +65,7 @@ class RowDamaged(Exception):
 
 
 class SessionDamaged(Exception):
-    """The same for a session's row."""
+    """The same for the row of a session."""
 
     def __init__(self, session: str, text: str) -> None:
         self.session = session

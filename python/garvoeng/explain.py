@@ -1,11 +1,11 @@
-"""What the library says of one response, step by step: python -m garvoeng.explain [--json] FILE
+"""Explains one response step by step, as the library verifies it: python -m garvoeng.explain [--json] FILE
 
-FILE is a case in JSON, as the inspector shows it: `response`, as a browser's `toJSON()` gives it, `rp_id`, `origins` and `session`, as
-`to_json` of a session gives it, or null; of a sign-in the row as `credential`, or null: `id`, `user`, `sign_count`, `eligible`, `retired`,
-and its key by `algorithm`, `x` and `y`, by `cose_key`, or by `spki_key`, as a browser's `getPublicKey()` gives it; and where they are not as usual `top_origins`, `profile`, `accept_none`,
-`accept_self`, `registered` and `full`. Bytes are texts of base64url. Told is each step of WebAuthn, section 7.1 or 7.2, in the order of
-the verdict, and of the one that refuses the bytes that decided. The status is 0 where the response is accepted, 1 where it is refused,
-and 2 where it is not judged."""
+FILE is a case in JSON, as the inspector shows it: `response`, as a browser's `toJSON()` returns it, `rp_id`, `origins` and `session`, as
+`to_json` of a session returns it, or null. A sign-in also has the row as `credential`, or null: `id`, `user`, `sign_count`, `eligible`,
+`retired`, and its key as `algorithm`, `x` and `y`, as `cose_key`, or as `spki_key`, which a browser's `getPublicKey()` returns. Give
+`top_origins`, `profile`, `accept_none`, `accept_self`, `registered` and `full` if they differ from the defaults. Bytes are base64url text.
+The output lists each step of WebAuthn, section 7.1 or 7.2, in the order of the verdict, and the bytes that decided the step that refuses.
+The status is 0 if the response is accepted, 1 if it is refused, and 2 if it is not judged."""
 from __future__ import annotations
 
 import hashlib
@@ -43,13 +43,13 @@ _STATUS = {"accepted": 0, "refused": 1, "not judged": 2}
 
 @lru_cache(1)
 def steps() -> Dict[str, List[Dict[str, Any]]]:
-    """The steps of each kind in the order of the verdict, with what each asks and what to do where it refuses."""
+    """The steps of each kind in the order of the verdict, with what each checks and what to do if it refuses."""
     made: Dict[str, List[Dict[str, Any]]] = json.loads((Path(__file__).parent / "steps.json").read_text(encoding="utf-8"))
     return made
 
 
 def kind_of(response: Any) -> Optional[str]:
-    """What a response answers; None where it is none."""
+    """The kind of a response; None if it is of neither kind."""
     parts = response.get("response") if isinstance(response, Mapping) else None
     if not isinstance(parts, Mapping):
         return None
@@ -59,7 +59,7 @@ def kind_of(response: Any) -> Optional[str]:
 
 
 def _parts_of(response: Mapping[str, Any]) -> Dict[str, Optional[bytes]]:
-    """The bytes of a response's members as far as they are base64url; None of the others."""
+    """The bytes of a response's members that are base64url; None for the others."""
     made: Dict[str, Optional[bytes]] = {}
     for name, text in (("rawId", response.get("rawId")), *((name, response["response"].get(name)) for name in _PARTS)):
         try:
@@ -87,7 +87,7 @@ def _session_of(session: Any, kind: str) -> Any:
 
 
 def _key_of(value: bytes) -> Tuple[int, bytes, bytes]:
-    """The algorithm, x and y of SubjectPublicKeyInfo (RFC 5280, section 4.1)."""
+    """The algorithm, x and y in SubjectPublicKeyInfo (RFC 5280, section 4.1)."""
     def digits(number: int) -> bytes:
         return number.to_bytes((number.bit_length() + 7) // 8, "big")
 
@@ -107,7 +107,7 @@ def _key_of(value: bytes) -> Tuple[int, bytes, bytes]:
 
 
 def _row_of(row: Any) -> Optional[Credential]:
-    """The row of a sign-in, in the names of JSON; its key as COSE_Key bytes, as a browser gives it, or by its numbers."""
+    """The row of a sign-in, with the names used in JSON. Its key is given as COSE_Key bytes, as a browser returns it, or by its numbers."""
     if row is None:
         return None
     _check_names(row, "credential", _ROW)
@@ -123,7 +123,7 @@ def _row_of(row: Any) -> Optional[Credential]:
 
 
 def _judged(given: Mapping[str, Any], kind: str, session: Any, credential: Optional[Credential], asked: List[Asked]) -> Credential:
-    """The credential that is to be stored, where the library accepts. The signature that it asked to be verified is added to `asked`."""
+    """The credential to store, if the library accepts. The signature that it asked to be verified is added to `asked`."""
     def verify(algorithm: int, x: bytes, y: bytes, message: bytes, signature: bytes) -> bool:
         valid = is_valid(algorithm, x, y, message, signature)
         asked.append(Asked(algorithm, x, y, message, signature, valid))
@@ -138,13 +138,13 @@ def _judged(given: Mapping[str, Any], kind: str, session: Any, credential: Optio
 
 
 def _stored_in(credential: Credential) -> Dict[str, Any]:
-    """What is to be stored where the response is accepted, in the form of `credential` of a case."""
+    """What to store if the response is accepted, in the form of `credential` in a case."""
     return {"id": to_text(credential.id), "user": to_text(credential.user), "algorithm": credential.algorithm, "x": to_text(credential.x),
             "y": to_text(credential.y), "sign_count": credential.sign_count, "eligible": credential.eligible, "retired": credential.retired}
 
 
 def _client_of(given: Mapping[str, Any], kind: str, parts: Mapping[str, Optional[bytes]]) -> Dict[str, Any]:
-    """What the client says beside the parts that are judged."""
+    """What the client says besides the parts that are verified."""
     def digits(name: str) -> Optional[str]:
         value = parts[name]
         return None if value is None else value.hex()
@@ -160,7 +160,7 @@ def _state(at: int, failed: int) -> str:
 
 
 def _told(kind: str, verdict: str, failed: int, facts: Optional[Facts]) -> List[Dict[str, Any]]:
-    """The steps with their states: those before the one that refuses are passed, and those after it not reached."""
+    """The steps with their states: those before the one that refuses have passed, and those after it are not reached."""
     return [{"number": step["number"], "code": step["code"], "name": step["name"], "standard": step["standard"], "asks": step["asks"],
              "state": _state(at, failed), "refusal": step["text"], "when": step["when"], "advice": step["advice"],
              "bytes": [] if facts is None or verdict == "not judged" else compared_at(kind, step["name"], facts)}
@@ -168,9 +168,9 @@ def _told(kind: str, verdict: str, failed: int, facts: Optional[Facts]) -> List[
 
 
 def explain(case: Any) -> Dict[str, Any]:
-    """What a response comes to, as values of JSON. `case` has the members that stand above. The result has `kind`, `verdict` (`accepted`, `refused`,
-    or `not judged`, and then `fault` says why), `refusal`, `steps`, each with `number`, `name`, `asks`, `state` (`passed`, `failed` or
-    `not reached`) and `bytes`, which are `of` what, as `text` or in `hex`; `credential`, which is to be stored; and what is `decoded`."""
+    """Explains a response, as JSON values. `case` has the members listed above. The result has `kind`, `verdict` (`accepted`, `refused`, or
+    `not judged`, and then `fault` says why), `refusal`, `steps`, each with `number`, `name`, `asks`, `state` (`passed`, `failed` or `not
+    reached`) and `bytes`, which are `of` something, as `text` or in `hex`; `credential`, the one to store; and what is `decoded`."""
     kind = kind_of(case.get("response")) if isinstance(case, Mapping) else None
     if kind is None:
         return {"kind": None, "verdict": "not judged", "fault": "this is no response of a registration or a sign-in: its member response has neither "
@@ -200,7 +200,7 @@ def explain(case: Any) -> Dict[str, Any]:
 
 
 def _facts_of(given: Dict[str, Any], kind: str, session: Any, row: Optional[Credential], asked: List[Asked]) -> Tuple[Facts, Dict[str, Any]]:
-    """What the steps look at, and the same as it is shown."""
+    """What the steps look at, and the same for display."""
     parts = _parts_of(given["response"])
     attestation, data = attestation_of(parts["attestationObject"] or b"", is_canonical) if kind == REGISTRATION else ({}, parts["authenticatorData"] or b"")
     client_data, auth = client_data_of(parts["clientDataJSON"] or b""), authenticator_data_of(data, is_canonical)
@@ -211,7 +211,7 @@ def _facts_of(given: Dict[str, Any], kind: str, session: Any, row: Optional[Cred
 
 
 def text_of(told: Mapping[str, Any]) -> str:
-    """What `explain` told, as lines."""
+    """The result of `explain` as text lines."""
     refusal, fault = told["refusal"], told["fault"]
     said = told["verdict"] if refusal is None else f"{told['verdict']} {refusal['code']} {refusal['name']}: {refusal['text']}"
     lines = [f"{told['kind'] or 'response'} {said}" + ("" if fault is None else f": {fault}")]
@@ -224,7 +224,7 @@ def text_of(told: Mapping[str, Any]) -> str:
 
 
 def main(words: Sequence[str]) -> int:
-    """Tells of the case in a file, and gives the status."""
+    """Explains the case in a file, and returns the status."""
     names = [word for word in words if word != "--json"]
     if len(names) != 1:
         print(__doc__, file=sys.stderr)

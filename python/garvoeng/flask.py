@@ -1,9 +1,9 @@
-"""Passkeys for a site in Flask: a blueprint with a page, and what it asks (`garvoeng.web`).
+"""Passkeys for a site in Flask: a blueprint with a page and the requests that the page makes (`garvoeng.web`).
 
     app.register_blueprint(passkeys(server), url_prefix="/passkeys")
 
-`signed_in()` is the visitor's user handle then, or None, and `fresh(300)` whether he signed in within five minutes. A site with
-For Flask-Login pass `accounts=LoginAccounts(..)`.
+`signed_in()` then returns the visitor's user handle, or None, and `fresh(300)` whether the visitor signed in within five minutes. For
+Flask-Login pass `accounts=LoginAccounts(..)`.
 """
 from __future__ import annotations
 
@@ -35,8 +35,8 @@ def _core() -> Passkeys:
 
 
 def visitor() -> Optional[Visitor]:
-    """Who is signed in, or None: where nobody signed in, or has signed out, and where the passkey was retired or deleted since. It is looked
-    up once for a request."""
+    """The visitor who is signed in, or None: if nobody signed in, if the visitor signed out, or if the passkey was retired or deleted
+    since. Looked up once for each request."""
     if "garvoeng_visitor" not in g:
         g.garvoeng_visitor = _core().visitor(_asked())
 
@@ -49,28 +49,28 @@ def visitor() -> Optional[Visitor]:
 
 
 def signed_in() -> Optional[bytes]:
-    """The user handle of the visitor, or None."""
+    """The visitor's user handle, or None."""
     found = visitor()
     return None if found is None else found.user
 
 
 def fresh(seconds: float) -> bool:
-    """Whether the visitor signed in at most this many seconds ago: ask it before a sensitive act. Else the page calls
+    """Whether the visitor signed in at most this many seconds ago. Check it before a sensitive act; if it is false, the page calls
     `passkeys.signIn({ again: true })`."""
     found = visitor()
     return found is not None and found.is_fresh(seconds)
 
 
 def end() -> None:
-    """Ends the visitor's sign-in: for a sign-out of the site's own, but of Flask-Login's, which does so."""
+    """Ends the visitor's sign-in. Call it from the site's own sign-out; Flask-Login's does so by itself."""
     _core().end(_asked())
     g.pop("garvoeng_visitor", None)
 
 
 def passkeys(server: Any, name: str = "passkeys", *, accounts: Any = None, **how: Any) -> Blueprint:
-    """The blueprint, one to an application: the acts of `garvoeng.web` at its root, `passkeys.page`, `passkeys.list` and so on to `url_for`.
-    `how` is as in `garvoeng.web.Passkeys`: `fresh`, `signed_in_for`, `rate_limit`, `registration` .. Behind a proxy the visitor's address
-    is that of `X-Forwarded-For` where the site has werkzeug's `ProxyFix`."""
+    """The blueprint, one for each application: the acts of `garvoeng.web` at its root; for `url_for` they are `passkeys.page`,
+    `passkeys.list` and so on. `how` is as in `garvoeng.web.Passkeys`: `fresh`, `signed_in_for`, `rate_limit`, `registration` .. Behind a
+    proxy the visitor's address is that of `X-Forwarded-For` if the site uses werkzeug's `ProxyFix`."""
     core, blueprint = Passkeys(server, accounts, **how), Blueprint(name, __name__)
 
     @blueprint.record_once
@@ -89,7 +89,7 @@ def passkeys(server: Any, name: str = "passkeys", *, accounts: Any = None, **how
 
     @blueprint.get("/token")
     def token() -> "dict[str, str]":
-        """What Flask-WTF wants of a post, where the site has it."""
+        """The token that Flask-WTF requires of a post, if the site uses it."""
         if "csrf" not in current_app.extensions:
             return {}
         return {"header": "X-CSRFToken", "token": import_module("flask_wtf.csrf").generate_csrf()}
@@ -104,11 +104,11 @@ def _login() -> Any:
 
 
 class LoginAccounts(Accounts):
-    """The users of Flask-Login. `handle_of(user)` gives the user handle that the site keeps with a user, 32 random bytes or so, and
-    `user_by(handle)` the user of one, or None. `make(name, handle)` makes a user, where a passkey may make one, and raises `Denied` where
+    """The users of Flask-Login. `handle_of(user)` returns the user handle that the site keeps with a user, for example 32 random bytes, and
+    `user_by(handle)` the user with a handle, or None. `make(name, handle)` makes a user, if a passkey may make one, and raises `Denied` if
     the name is taken. `name_of(user)` is what a browser shows.
 
-    A user who signed in by a passkey is logged out where it is retired or deleted."""
+    A user who signed in with a passkey is logged out when it is retired or deleted."""
 
     def __init__(self, handle_of: Callable[[Any], bytes], user_by: Callable[[bytes], Any],
                  make: Optional[Callable[[str, bytes], None]] = None, name_of: Callable[[Any], str] = str) -> None:
@@ -132,7 +132,7 @@ class LoginAccounts(Accounts):
         session.pop(_BY, None)
 
     def _ends(self) -> None:
-        """Logs out whose passkey is retired or deleted, or whose sign-in was ended."""
+        """Logs out a user whose passkey is retired or deleted, or whose sign-in was ended."""
         if session.get(_BY):
             found = visitor()
             if found is None or found.credential is None:

@@ -1,5 +1,4 @@
-"""The forms of JSON that pages and sites exchange (WebAuthn Level 3, section 5.1): each value of bytes in base64url without
-padding."""
+"""The forms of JSON that pages and sites exchange (WebAuthn Level 3, section 5.1). All bytes are in base64url without padding."""
 from __future__ import annotations
 
 import base64
@@ -10,9 +9,9 @@ from ._passkey import parts as _parts
 from .errors import BadInput
 
 MAX_TRANSPORTS = 16
-"""The most transports of a credential."""
+"""How many transports a credential may have."""
 MAX_SESSION = 2_875
-"""The most characters of a session's text."""
+"""The longest text of a session, in characters."""
 
 RegistrationParts = Tuple[bytes, bytes, bytes]
 SignInParts = Tuple[bytes, bytes, bytes, bytes, Optional[bytes]]
@@ -28,7 +27,7 @@ def to_text(value: bytes) -> str:
 
 
 def from_text(text: Any, what: str) -> bytes:
-    """The bytes of base64url without padding, in its one spelling: 65,536 characters at most. Raises `BadInput`, which names `what`."""
+    """The bytes of canonical base64url text without padding, at most 65,536 characters. Raises `BadInput`, which names `what`."""
     try:
         made: bytes = _parts({what: text}, {}, (what,), 1)[0]
     except ValueError as error:
@@ -37,7 +36,7 @@ def from_text(text: Any, what: str) -> bytes:
 
 
 def sealed(session: Optional[str]) -> str:
-    """The text of a session of `StoredServer`: of what no begin gave none, which is an unknown session to the program."""
+    """The text of a session of `StoredServer`. Any text that no begin returned becomes a session that the program does not know."""
     try:
         return session if session is not None and len(session) <= MAX_SESSION and from_text(session, "session") else ""
     except BadInput:
@@ -45,7 +44,7 @@ def sealed(session: Optional[str]) -> str:
 
 
 def _plain(response: Mapping[str, Any]) -> Dict[str, Any]:
-    """A response whose objects are dicts, after what the standard fixes of it beside its parts."""
+    """A response whose objects are dicts, after checking what the standard requires besides its parts."""
     if not isinstance(response, Mapping) or not isinstance(response.get("response"), Mapping):
         raise BadInput("response is missing")
     for name in ("id", "rawId", "type"):
@@ -64,7 +63,7 @@ def _plain(response: Mapping[str, Any]) -> Dict[str, Any]:
 
 
 def _read(response: Mapping[str, Any], names: Tuple[str, ...], required: int) -> Any:
-    """These members as bytes."""
+    """The bytes of these members."""
     try:
         try:
             # What browsers send is seen at once, without the slower look at each member.
@@ -81,28 +80,28 @@ def _read(response: Mapping[str, Any], names: Tuple[str, ...], required: int) ->
 
 
 def registration_parts(response: Mapping[str, Any]) -> RegistrationParts:
-    """`rawId`, `clientDataJSON` and `attestationObject` of a RegistrationResponseJSON. Members of other names are passed over. Raises
+    """`rawId`, `clientDataJSON` and `attestationObject` of a RegistrationResponseJSON. Members with other names are ignored. Raises
     `BadInput`."""
     made: RegistrationParts = _read(response, _REGISTRATION, 3)
     return made
 
 
 def sign_in_parts(response: Mapping[str, Any]) -> SignInParts:
-    """`rawId`, `clientDataJSON`, `authenticatorData`, `signature` and `userHandle` of an AuthenticationResponseJSON. A user handle that
-    is null counts as absent. Raises as `registration_parts`."""
+    """`rawId`, `clientDataJSON`, `authenticatorData`, `signature` and `userHandle` of an AuthenticationResponseJSON. A user handle that is
+    null counts as absent. Raises like `registration_parts`."""
     made: SignInParts = _read(response, _SIGN_IN, 4)
     return made
 
 
 def transports_in(value: Any) -> Tuple[str, ...]:
-    """Transports as a page tells them (WebAuthn Level 2, section 5.8.4): what is none is left out, and so is each after the
-    sixteenth."""
+    """The transports that a page sent (WebAuthn Level 2, section 5.8.4). Items that are not transports are left out, and so are all after
+    the sixteenth."""
     listed = value[:MAX_TRANSPORTS] if isinstance(value, (list, tuple)) else ()
     return tuple(one for one in listed if isinstance(one, str) and _TRANSPORT.fullmatch(one))
 
 
 def transports_of(response: Mapping[str, Any]) -> Tuple[str, ...]:
-    """The transports that a RegistrationResponseJSON tells."""
+    """The transports in a RegistrationResponseJSON."""
     return transports_in(response["response"].get("transports"))
 
 

@@ -1,4 +1,4 @@
-"""Security keys of this machine, on Linux, by python-fido2."""
+"""The security keys of this machine, on Linux, found by python-fido2."""
 from __future__ import annotations
 
 import os
@@ -7,38 +7,38 @@ from importlib import import_module
 from typing import Any, List, Optional
 
 REPORT = 64
-"""How many bytes a packet has."""
+"""The size of a packet in bytes."""
 
 
 def is_ready(file: int, seconds: float) -> bool:
-    """Whether a file has something to read, or has ended, within this time in seconds."""
+    """Whether a file has something to read, or has ended, within this many seconds."""
     waiting = select.poll()
     waiting.register(file, select.POLLIN)
     return bool(waiting.poll(max(seconds, 0) * 1000))
 
 
 class HidMissing(ImportError):
-    """python-fido2 is not installed, by which keys are found."""
+    """python-fido2, which finds the keys, is not installed."""
 
     def __init__(self) -> None:
         super().__init__("python-fido2 is missing: pip install fido2, or apt install python3-fido2")
 
 
 class SecurityKey:
-    """A security key on USB that `security_keys` found. It is opened at the first `write` or `read`, by one process at a time as far as
-    others keep to that; leave its `with`, or call `close`, to let it go. OSError where it is gone, or may not be opened."""
+    """A USB security key that `security_keys` found. The first `write` or `read` opens it, for one process at a time as far as other
+    processes respect that; leaving its `with`, or `close`, releases it. Raises OSError if the key is gone or may not be opened."""
 
     def __init__(self, descriptor: Any, name: Optional[str] = None) -> None:
         self._descriptor = descriptor
         self._connection: Any = None
         self.path = os.fsdecode(descriptor.path)
-        """As `/dev/hidraw3`."""
+        """Such as `/dev/hidraw3`."""
         self.vendor: int = descriptor.vid
-        """The maker's number of USB."""
+        """The vendor's USB number."""
         self.product: int = descriptor.pid
-        """The maker's number of the kind."""
+        """The USB number of the product."""
         self.name = name
-        """The name that the key has, where the system tells one."""
+        """The name of the key, if the system reports one."""
 
     def _opened(self) -> Any:
         if self._connection is None:
@@ -50,14 +50,14 @@ class SecurityKey:
         self._opened().write_packet(bytes(packet))
 
     def read(self, timeout: float) -> bytes:
-        """The next packet; TimeoutError where none comes in `timeout` seconds."""
+        """Returns the next packet. Raises TimeoutError if none comes within `timeout` seconds."""
         connection = self._opened()
         if not is_ready(connection.handle, timeout):
             raise TimeoutError("the key sent nothing")
         return bytes(connection.read_packet())
 
     def close(self) -> None:
-        """Lets the key go; the next `write` opens it again."""
+        """Releases the key; the next `write` opens it again."""
         connection, self._connection = self._connection, None
         if connection is not None:
             connection.close()
@@ -73,7 +73,7 @@ class SecurityKey:
 
 
 def _name_of(path: str) -> Optional[str]:
-    """What the system tells of a hidraw device."""
+    """What the system reports of a hidraw device."""
     try:
         with open(f"/sys/class/hidraw/{os.path.basename(path)}/device/uevent", encoding="utf-8", errors="replace") as told:
             return next((line[9:].strip() for line in told if line.startswith("HID_NAME=")), None)
@@ -82,8 +82,8 @@ def _name_of(path: str) -> Optional[str]:
 
 
 def security_keys() -> List[SecurityKey]:
-    """The security keys that this user may open, by their paths. None is there for one that the system's rules (udev) give to
-    another user alone, nor for one whose packets have not 64 bytes. Raises `HidMissing` without python-fido2, 0.9 or later."""
+    """The security keys that this user may open, in order of their paths. A key that the system's rules (udev) give to another user alone
+    is left out, and so is one whose packets are not 64 bytes long. Raises `HidMissing` without python-fido2, 0.9 or later."""
     try:
         descriptors = import_module("fido2.hid").list_descriptors()
     except ImportError:

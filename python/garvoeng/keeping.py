@@ -1,4 +1,5 @@
-"""A relying party whose sessions and credentials are in a storage of the site's own, and what each server that keeps its own has."""
+"""A relying party whose sessions and credentials are in a storage of the site's own, and the interface that all servers with storage
+share."""
 from __future__ import annotations
 
 import json
@@ -19,7 +20,7 @@ from .records import KeptCredential, Registered, RegistrationSession, SignedIn, 
 from .server import Server
 
 LIFETIME = 300
-"""How many seconds a session stays open, if not said."""
+"""How many seconds a session stays open by default."""
 
 Session = TypeVar("Session", RegistrationSession, SignInSession)
 _log = logging.getLogger("garvoeng")
@@ -27,9 +28,9 @@ _NUMBER = re.compile(r"[0-9a-f]{32}")
 
 
 class PasskeyServer(Protocol):
-    """What `KeepingServer`, `SqlServer` and `StoredServer` have in common. A site that is written for it changes its storage by the line
-    that makes the server. `session` is a text that only its visitor may have, or None: of another text none is open, and another kind of
-    value is TypeError."""
+    """The common interface of `KeepingServer`, `SqlServer` and `StoredServer`. To change its storage, a site written for it changes only
+    the line that makes the server. `session` is a text that only its visitor may have, or None: no session is open for any other text, and
+    a value of another type raises TypeError."""
 
     @property
     def origins(self) -> Tuple[str, ...]:
@@ -44,101 +45,102 @@ class PasskeyServer(Protocol):
                        algorithms: Sequence[int] = (ES256, EDDSA, RS256), authenticator_attachment: Optional[str] = None,
                        attestation: str = "none", conditional: bool = False, timeout: Optional[int] = None, hints: Sequence[str] = (),
                        extensions: Optional[Mapping[str, Any]] = None) -> Tuple[Dict[str, Any], str]:
-        """As in `Server`. The account's passkeys are excluded, unless a list is given."""
+        """As in `Server`. Excludes the account's passkeys, unless a list is given."""
 
     def register_complete(self, session: Optional[str], response: Mapping[str, Any]) -> Registered:
-        """What a RegistrationResponseJSON registers; it is stored, and the session closed."""
+        """Returns what a RegistrationResponseJSON registers, stores it, and closes the session."""
 
     def authenticate_begin(self, *, user: Optional[bytes] = None, allow: Optional[Ids] = None, user_verification: Requirement = False,
                            timeout: Optional[int] = None, hints: Sequence[str] = (),
                            extensions: Optional[Mapping[str, Any]] = None) -> Tuple[Dict[str, Any], str]:
-        """As in `Server`. Where the account is known its passkeys are listed, unless a list is given; where they are more than a list may
-        have, any that the browser finds may answer, and has to be the account's."""
+        """As in `Server`. If the account is known, its passkeys are listed, unless a list is given. If there are more than a list may have,
+        any passkey that the browser finds may answer; it has to be the account's."""
 
     def authenticate_complete(self, session: Optional[str], response: Mapping[str, Any]) -> SignedIn:
-        """Who signed in, of an AuthenticationResponseJSON; the counter is stored, and the session closed."""
+        """Returns who signed in with an AuthenticationResponseJSON, stores the counter, and closes the session."""
 
     def rows(self, user: Optional[bytes] = None) -> Sequence[KeptCredential]:
-        """The credentials of a user, or all, retired ones too, in order of registration."""
+        """The credentials of a user, or all, including retired ones, in order of registration."""
 
     def retire(self, credential: bytes, *, user: Optional[bytes] = None) -> bool:
-        """A credential signs in no more, and its id stays taken; whether it did until now. Its user's open registrations end. With `user`
-        one of another account is left as it is."""
+        """Retires a credential: it can't sign in any more, and its id stays taken. Returns whether it could until now. Its user's open
+        registrations end. With `user`, a credential of another account is left as it is."""
 
     def retire_all(self, user: bytes) -> int:
-        """A user's credentials sign in no more, and his open registrations end; how many did until now."""
+        """Retires all of a user's credentials, and ends the user's open registrations. Returns how many could sign in until now."""
 
     def delete(self, credential: bytes, *, user: Optional[bytes] = None) -> bool:
-        """A credential is forgotten, and its id may be registered again, by anybody; whether it was there. Its user's open registrations
-        end. `user` is as in `retire`."""
+        """Forgets a credential; anybody may register its id again. Returns whether it was there. Its user's open registrations end. `user`
+        is as in `retire`."""
 
     def erase(self, user: bytes) -> int:
-        """A user's credentials are forgotten, and his open registrations end; how many they were."""
+        """Forgets a user's credentials, and ends the user's open registrations. Returns how many there were."""
 
     def abandon(self, session: Optional[str]) -> bool:
-        """A session ends; whether it was open."""
+        """Ends a session. Returns whether it was open."""
 
 
 @dataclass(frozen=True)
 class OpenSession:
-    """A session as a `Store` has it."""
+    """A session as a `Store` keeps it."""
 
     number: str
-    """32 hexadecimal digits, which only its visitor has."""
+    """32 hexadecimal digits that only its visitor has."""
     kind: str
     """`registration` or `sign_in`."""
     user: Optional[bytes]
-    """The user handle, where the account is known."""
+    """The user handle, if the account is known."""
     data: str
-    """A text that `session` gives back as it is."""
+    """A text that `session` returns unchanged."""
     ends_at: int
-    """Seconds since 1970. The server passes over a session that has ended; the store may delete it."""
+    """Seconds since 1970. The server ignores a session that has ended; the store may delete it."""
 
 
 class Store(Protocol):
-    """A storage of a site's own: rows of an ORM, of a database, of a file. Each call is one change, whole or not at all, whoever calls at
-    the same time: in a database one transaction. Calls come from any thread, and are not awaited. Rows that the site has of its own may be
-    written in the same transaction."""
+    """A site's own storage: rows of an ORM, of a database, of a file. Each call is one change, done completely or not at all, even with
+    concurrent calls: in a database, one transaction. Calls come from any thread, and are not awaited. The site may write other rows of its
+    own in the same transaction."""
 
     def begin(self, session: OpenSession) -> None:
         """Adds a session."""
 
     def session(self, number: str) -> Optional[OpenSession]:
-        """The session of this number, or None."""
+        """The session with this number, or None."""
 
     def register(self, number: str, row: KeptCredential) -> int:
-        """Deletes the session and adds the row: 0. Where the session is not there 1, and where a row has the id, of anyone, retired or
-        not, 15; then nothing is changed."""
+        """Deletes the session, adds the row and returns 0. Returns 1 if the session is not there, and 15 if a row has the id, of any user,
+        retired or not; then nothing is changed."""
 
     def sign_in(self, number: str, row: KeptCredential, sign_count: int) -> int:
-        """Deletes the session and writes the row in the place of the one of its id: 0. Where the session is not there 1, and where that
-        row is not there, is retired, or has another `sign_count` than this, 15; then nothing is changed."""
+        """Deletes the session, replaces the row with this id by the new one and returns 0. Returns 1 if the session is not there, and 15 if
+        that row is not there, is retired, or has a `sign_count` other than this one; then nothing is changed."""
 
     def abandon(self, number: str) -> bool:
-        """Deletes a session; whether it was there."""
+        """Deletes a session. Returns whether it was there."""
 
     def row(self, credential: bytes) -> Optional[KeptCredential]:
-        """The row of this id, or None."""
+        """The row with this id, or None."""
 
     def rows(self, user: Optional[bytes]) -> Sequence[KeptCredential]:
         """The rows of a user, or all, in order of registration."""
 
     def retire(self, credential: bytes, user: Optional[bytes]) -> bool:
-        """Makes `retired` of a row true, where it is not, and deletes the sessions of its user whose kind is `registration`; whether it was
-        so. With `user` a row of another one is left as it is."""
+        """Sets `retired` of a row to true, and deletes the sessions of its user whose kind is `registration`. Returns whether the row was
+        not retired before. With `user`, the row of another user is left as it is."""
 
     def retire_all(self, user: bytes) -> int:
-        """The same for all rows of a user; how many were not retired."""
+        """Does the same for all rows of a user. Returns how many were not retired."""
 
     def delete(self, credential: bytes, user: Optional[bytes]) -> bool:
-        """Deletes a row, and the sessions of its user whose kind is `registration`; whether it was there. `user` is as in `retire`."""
+        """Deletes a row, and the sessions of its user whose kind is `registration`. Returns whether it was there. `user` is as in
+        `retire`."""
 
     def erase(self, user: bytes) -> int:
-        """Deletes all rows and all sessions of a user; how many rows."""
+        """Deletes all rows and all sessions of a user. Returns how many rows there were."""
 
 
 def _check(row: KeptCredential) -> None:
-    """Raises `RowDamaged`, which is logged."""
+    """Checks a row. Raises `RowDamaged`, and logs it."""
     try:
         check_row(row)
     except RowDamaged as damaged:
@@ -151,11 +153,11 @@ def _wrong(call: str, said: Any, wanted: str) -> NoReturn:
 
 
 class KeepingServer:
-    """`Server` with its sessions and credentials in a `Store` of the site's own, as `MemoryStore()`.
+    """`Server` with its sessions and credentials in a `Store` of the site's own, for example `MemoryStore()`.
 
-    `lifetime` is how many seconds a session stays open. Raises what `Server` raises, and what the store does, which changes nothing then.
-    TypeError if the store answers something other than it may, and `RowDamaged` if the row that is asked for is damaged. If another
-    sign-in with the credential was accepted meanwhile, it raises `Refused` with W15, and if its id was registered meanwhile with G15.
+    `lifetime` is how many seconds a session stays open. Raises what `Server` raises, and what the store raises, in which case nothing
+    changes. Raises TypeError if the store answers something other than it may, `RowDamaged` if the row that is asked for is damaged, and
+    `Refused` with W15 if another sign-in with the credential was accepted meanwhile, or with G15 if its id was registered meanwhile.
     """
 
     def __init__(self, server: Server, store: Store, *, lifetime: int = LIFETIME) -> None:
@@ -174,7 +176,7 @@ class KeepingServer:
         return number
 
     def _opened(self, number: Optional[str], kind: str, read: Type[Session]) -> Optional[Session]:
-        """The session of this number and kind that is open, or None. Raises `SessionDamaged`."""
+        """The open session of this number and kind, or None. Raises `SessionDamaged`."""
         if number is None or not _NUMBER.fullmatch(number):
             return None
         found = self.store.session(number)
@@ -221,8 +223,8 @@ class KeepingServer:
 
     def register_begin(self, user: bytes, user_name: str, display_name: Optional[str] = None, *, exclude: Optional[Ids] = None,
                        **how: Any) -> Tuple[Dict[str, Any], str]:
-        """The options for the page, and the session's number, which only this visitor may have. `how` is as in `Server.register_begin`;
-        the account's passkeys are excluded, unless a list is given."""
+        """Returns the options for the page, and the session's number, which only this visitor may have. `how` is as in
+        `Server.register_begin`; the account's passkeys are excluded, unless a list is given."""
         listed = options.fitting(self._own(limits.check_user(user))) if exclude is None else exclude
         made, session = self.server.register_begin(user, user_name, display_name, exclude=listed, **how)
         return made, self._begun("registration", session)
@@ -233,7 +235,7 @@ class KeepingServer:
         return await in_thread(self.register_begin, user, user_name, display_name, **how)
 
     def register_complete(self, session: Optional[str], response: Mapping[str, Any]) -> Registered:
-        """What a RegistrationResponseJSON registers; it is stored, and the session closed."""
+        """Returns what a RegistrationResponseJSON registers, stores it, and closes the session."""
         number = limits.check_session(session)
         made = self.server.register_complete(self._opened(number, "registration", RegistrationSession), response,
                                              is_registered=lambda id: self._found(id) is not None)
@@ -243,25 +245,25 @@ class KeepingServer:
         return made
 
     async def register_complete_async(self, session: Optional[str], response: Mapping[str, Any]) -> Registered:
-        """The same, awaited as `register_begin_async`; what `verify` gives is awaited too, if it can be."""
+        """The same, awaited like `register_begin_async`; what `verify` returns is awaited too, if it can be."""
         return await in_thread(self.register_complete, session, response)
 
     # ---- sign-in
 
     def authenticate_begin(self, *, user: Optional[bytes] = None, allow: Optional[Ids] = None, **how: Any) -> Tuple[Dict[str, Any], str]:
-        """The options for the page, and the session's number, which only this visitor may have. `how` is as in
-        `Server.authenticate_begin`. Where the account is known its passkeys are listed, unless a list is given; where they are more than
-        a list may have, any that the browser finds may answer, and has to be the account's."""
+        """Returns the options for the page, and the session's number, which only this visitor may have. `how` is as in
+        `Server.authenticate_begin`. If the account is known, its passkeys are listed, unless a list is given. If there are more than a list
+        may have, any passkey that the browser finds may answer; it has to be the account's."""
         own = [] if user is None or allow is not None else self._own(limits.check_user(user))
         made, session = self.server.authenticate_begin(user=user, allow=options.allowed(own) if allow is None else allow, **how)
         return made, self._begun("sign_in", session)
 
     async def authenticate_begin_async(self, **how: Any) -> Tuple[Dict[str, Any], str]:
-        """The same, awaited as `register_begin_async`."""
+        """The same, awaited like `register_begin_async`."""
         return await in_thread(self.authenticate_begin, **how)
 
     def authenticate_complete(self, session: Optional[str], response: Mapping[str, Any]) -> SignedIn:
-        """Who signed in, of an AuthenticationResponseJSON; the counter is stored, and the session closed."""
+        """Returns who signed in with an AuthenticationResponseJSON, stores the counter, and closes the session."""
         number = limits.check_session(session)
         found: List[Optional[KeptCredential]] = []
 
@@ -280,14 +282,13 @@ class KeepingServer:
         return replace(signed_in, before=None)
 
     async def authenticate_complete_async(self, session: Optional[str], response: Mapping[str, Any]) -> SignedIn:
-        """The same, awaited as `register_complete_async`."""
+        """The same, awaited like `register_complete_async`."""
         return await in_thread(self.authenticate_complete, session, response)
 
     # ---- sessions and credentials
 
     def rows(self, user: Optional[bytes] = None) -> List[KeptCredential]:
-        """The credentials of a user, or all, retired ones too, in order of registration. A row that is damaged is left out, and
-        logged."""
+        """The credentials of a user, or all, including retired ones, in order of registration. A damaged row is left out and logged."""
         found = self.store.rows(None if user is None else limits.check_user(user))
         if not isinstance(found, (list, tuple)) or not all(isinstance(row, KeptCredential) for row in found):
             _wrong("rows", found, "a list of KeptCredential")
@@ -303,26 +304,26 @@ class KeepingServer:
         return [row for row in self.rows(user) if not row.retired]
 
     def retire(self, credential: bytes, *, user: Optional[bytes] = None) -> bool:
-        """A credential signs in no more, and its id stays taken; whether it did until now. Its user's open registrations end. With `user`
-        one of another account is left as it is."""
+        """Retires a credential: it can't sign in any more, and its id stays taken. Returns whether it could until now. Its user's open
+        registrations end. With `user`, a credential of another account is left as it is."""
         said = self.store.retire(limits.check_id(credential, "credential"), None if user is None else limits.check_user(user))
         return answers.is_true("the store's retire", said)
 
     def retire_all(self, user: bytes) -> int:
-        """A user's credentials sign in no more, and his open registrations end; how many did until now."""
+        """Retires all of a user's credentials, and ends the user's open registrations. Returns how many could sign in until now."""
         return self._count("retire_all", self.store.retire_all(limits.check_user(user)))
 
     def delete(self, credential: bytes, *, user: Optional[bytes] = None) -> bool:
-        """A credential is forgotten, and its id may be registered again, by anybody; whether it was there. Its user's open registrations
-        end. `user` is as in `retire`."""
+        """Forgets a credential; anybody may register its id again. Returns whether it was there. Its user's open registrations end. `user`
+        is as in `retire`."""
         said = self.store.delete(limits.check_id(credential, "credential"), None if user is None else limits.check_user(user))
         return answers.is_true("the store's delete", said)
 
     def erase(self, user: bytes) -> int:
-        """A user's credentials are forgotten, and his open sessions end; how many they were."""
+        """Forgets a user's credentials, and ends the user's open sessions. Returns how many credentials there were."""
         return self._count("erase", self.store.erase(limits.check_user(user)))
 
     def abandon(self, session: Optional[str]) -> bool:
-        """A session ends; whether it was open."""
+        """Ends a session. Returns whether it was open."""
         number = limits.check_session(session)
         return number is not None and bool(_NUMBER.fullmatch(number)) and answers.is_true("the store's abandon", self.store.abandon(number))

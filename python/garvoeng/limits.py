@@ -1,5 +1,5 @@
-"""What a relying party and its sessions may be. Each value out of its limits is refused by `BadInput` at once, and not at
-each visitor's response."""
+"""The limits of a relying party and its sessions. A value out of its limits is refused with `BadInput` at once, and not at each visitor's
+response."""
 from __future__ import annotations
 
 import os
@@ -12,11 +12,11 @@ from .errors import BadInput
 from .library import EDDSA, ES256, MAX_ID, PROFILES, RS256
 
 MAX_LIST = 64
-"""The most credential ids of a list. Browsers take no longer one."""
+"""The greatest number of credential ids in a list. Browsers accept no longer one."""
 MAX_STRICT_LIST = 8
-"""The same for a `StoredServer` of the profile `strict`."""
+"""The same for a `StoredServer` with the profile `strict`."""
 MAX_USER = 64
-"""The most bytes of a user handle (WebAuthn Level 2, section 5.4.3)."""
+"""The greatest length of a user handle, in bytes (WebAuthn Level 2, section 5.4.3)."""
 
 MAX_COUNT = 2**32 - 1
 """The greatest signature counter (WebAuthn Level 2, section 6.1)."""
@@ -40,21 +40,21 @@ def check_text(value: Any, what: str) -> str:
 
 
 def check_bytes(value: Any, what: str, advice: str = "") -> bytes:
-    """The bytes of a buffer. A number, which `bytes` takes for a length, is none."""
+    """The bytes of a buffer. A number, which `bytes` takes for a length, is refused."""
     if not isinstance(value, (bytes, bytearray, memoryview)):
         raise TypeError(f"{what} is bytes{advice}, and not {kind_of(value)}")
     return bytes(value)
 
 
 def check_list(value: Any, what: str, of: str) -> List[Any]:
-    """The items of a list, or of what else is gone through. Bytes and a text are none: their items are numbers and characters."""
+    """The items of a list, or of another iterable. Bytes and text are refused, because their items are numbers and characters."""
     if isinstance(value, (str, bytes, bytearray, memoryview, Mapping)) or not isinstance(value, Iterable):
         raise TypeError(f"{what} is a list of {of}, and not {kind_of(value)}")
     return list(value)
 
 
 def _check_rp_id(rp_id: str) -> None:
-    """A domain as browsers write it: 1 to 253 characters, and no IP address (WebAuthn Level 2, section 4)."""
+    """Checks a domain as browsers write it: 1 to 253 characters, and not an IP address (WebAuthn Level 2, section 4)."""
     if len(check_text(rp_id, "rp_id")) > 253 or not _DOMAIN.fullmatch(rp_id):
         raise BadInput(f"rp_id is a domain in lower case, as example.com: not {rp_id[:300]!r}")
     if rp_id.rsplit(".", 1)[-1].isdigit():
@@ -62,7 +62,7 @@ def _check_rp_id(rp_id: str) -> None:
 
 
 def _host_of(origin: str, what: str) -> str:
-    """The host of an origin as browsers write it (RFC 6454, section 6.2); empty of an app's."""
+    """The host of an origin as browsers write it (RFC 6454, section 6.2); empty for an app's."""
     if _ANDROID.fullmatch(check_text(origin, f"each of {what}")):
         return ""
     found = _ORIGIN.fullmatch(origin)
@@ -77,7 +77,7 @@ def _host_of(origin: str, what: str) -> str:
 
 
 def check_party(rp_id: str, origins: Sequence[str]) -> Tuple[str, ...]:
-    """The origins of a relying party. Where there are web origins, the host of one is the rp id or ends in it."""
+    """Checks the origins of a relying party. If there are web origins, the host of at least one is the rp id or ends in it."""
     _check_rp_id(rp_id)
     listed = tuple(check_list(origins, "origins", "texts, as [\"https://example.com\"]"))
     if not listed:
@@ -89,7 +89,7 @@ def check_party(rp_id: str, origins: Sequence[str]) -> Tuple[str, ...]:
 
 
 def check_origins(origins: Sequence[str], what: str) -> Tuple[str, ...]:
-    """Origins of other pages than the site's."""
+    """Checks origins of pages other than the site's."""
     listed = tuple(check_list(origins, what, "texts, as [\"https://example.com\"]"))
     for origin in listed:
         _host_of(origin, what)
@@ -97,7 +97,7 @@ def check_origins(origins: Sequence[str], what: str) -> Tuple[str, ...]:
 
 
 def is_origin(value: str) -> bool:
-    """Whether a text is an origin as browsers write it."""
+    """Whether a text is an origin in the form that browsers write."""
     try:
         _host_of(value, "it")
     except BadInput:
@@ -106,7 +106,7 @@ def is_origin(value: str) -> bool:
 
 
 def check_top_origins(top_origins: Sequence[str]) -> Tuple[str, ...]:
-    """The origins of the pages that may have the site's in a frame (WebAuthn Level 3, section 5.8.1, `topOrigin`)."""
+    """Checks the origins of the pages that may have the site's in a frame (WebAuthn Level 3, section 5.8.1, `topOrigin`)."""
     return check_origins(top_origins, "top_origins")
 
 
@@ -130,7 +130,7 @@ def check_user(user: bytes) -> bytes:
 
 
 def check_id(value: bytes, what: str) -> bytes:
-    """A credential id."""
+    """Checks a credential id."""
     credential_id = check_bytes(value, what, ", a credential id")
     if not 1 <= len(credential_id) <= MAX_ID:
         raise BadInput(f"{what}, a credential id, has 1 to {MAX_ID} bytes, and not {len(credential_id)}")
@@ -158,7 +158,7 @@ def check_algorithms(algorithms: Sequence[int]) -> Tuple[int, ...]:
 
 
 def check_key(algorithm: int, x: bytes, y: bytes) -> None:
-    """The sizes of a public key's parts."""
+    """Checks the sizes of a public key's parts."""
     if algorithm not in (ES256, EDDSA, RS256):
         raise BadInput("a credential's algorithm is ES256 (-7), EDDSA (-8) or RS256 (-257)")
     fits = len(x) in (256, 384, 512) and 1 <= len(y) <= 4 if algorithm == RS256 else len(x) == 32 and len(y) == (32 if algorithm == ES256 else 0)
@@ -167,7 +167,7 @@ def check_key(algorithm: int, x: bytes, y: bytes) -> None:
 
 
 def check_path(value: Any, what: str) -> str:
-    """The path of a file, as a str or a `pathlib.Path`."""
+    """The path of a file, given as a str or a `pathlib.Path`."""
     path = os.fspath(value) if isinstance(value, os.PathLike) else value
     if not check_text(path, what) or "\0" in path:
         raise BadInput(f"{what} is the path of a file: not {path!r}")
@@ -191,14 +191,14 @@ def check_lifetime(seconds: Any, what: str = "lifetime") -> int:
 
 
 def check_session(session: Any) -> Optional[str]:
-    """The text of a session that a visitor hands back; None where there is none. Of a text that no begin gave none is open."""
+    """The text of a session that a visitor sends back; None if there is none. No session is open for a text that no begin returned."""
     if session is not None and not isinstance(session, str):
         raise TypeError(f"session is the text that the begin gave, or None, and not {kind_of(session)}")
     return session
 
 
 def check_credential(algorithm: int, sign_count: int) -> None:
-    """Checks a stored credential's values before they are written in fewer bits."""
+    """Checks the values of a stored credential before they are written in fewer bits."""
     if algorithm not in (ES256, EDDSA, RS256):
         raise BadInput("a credential's algorithm is ES256 (-7), EDDSA (-8) or RS256 (-257)")
     if not 0 <= sign_count <= MAX_COUNT:

@@ -1,4 +1,4 @@
-"""A storage in the memory of one process: for tests, and to be read by whoever writes one."""
+"""A storage in the memory of one process: for tests, and as an example for writing your own."""
 from __future__ import annotations
 
 import threading
@@ -19,7 +19,7 @@ class MemoryStore:
         self._rows: Dict[bytes, KeptCredential] = {}
 
     def begin(self, session: OpenSession) -> None:
-        """Adds a session. Those that have ended go, up to the first that has not."""
+        """Adds a session. Deletes those that have ended, up to the first that has not."""
         with self._lock:
             while self._sessions and next(iter(self._sessions.values())).ends_at <= time.time():
                 del self._sessions[next(iter(self._sessions))]

@@ -16,22 +16,22 @@ from .records import KeptCredential
 from .sql import Rows, SqlServer
 
 VERSION = 4
-"""The version of the file's tables that is read and written here (docs/SITE.md)."""
+"""The version of the file's tables that this module reads and writes (docs/SITE.md)."""
 
 _LOCK = (0x4000_0000, 512)
-"""Where SQLite locks a file, and how many bytes (the file format, section 1.5)."""
+"""The offset at which SQLite locks a file, and the number of bytes (the file format, section 1.5)."""
 _RESERVED = 20
-"""Where the header says how many bytes each page leaves to others: those of the sums, if it has them (section 1.3)."""
+"""The offset in the header of how many bytes each page reserves: those of the checksums, if it has them (section 1.3)."""
 _AT_ONCE = 1_000
-"""How many rows one transaction moves."""
+"""The number of rows that one transaction moves."""
 _ROWS = ("select place, id, user_handle, algorithm, x, y, sign_count, backup_eligible, retired, aaguid, created_at, used_at, transports "
          "from credential left join detail using (place) order by place")
 
 
 @contextmanager
 def _held(file: Path) -> Iterator[BinaryIO]:
-    """The file, opened; within this no other process has it. The lock goes as soon as this process closes the file, however it was
-    opened (POSIX, fcntl), so it is read by what this gives alone. Raises `BadInput` where a process has it, or there is none."""
+    """The open file; meanwhile no other process can use it. The lock ends as soon as this process closes the file, however it was opened
+    (POSIX, fcntl), so the file is read only through what this returns. Raises `BadInput` if a process uses it, or it does not exist."""
     try:
         opened = open(file, "r+b")
     except OSError as error:
@@ -45,7 +45,7 @@ def _held(file: Path) -> Iterator[BinaryIO]:
 
 
 def _checked(site: sqlite3.Connection, name: Path) -> None:
-    """Raises `BadInput` where the file is not that of a site of this version."""
+    """Raises `BadInput` if the file is not that of a site of this version."""
     try:
         version = [row[0] for row in site.execute("select version from site")]
     except sqlite3.DatabaseError as error:
@@ -55,7 +55,7 @@ def _checked(site: sqlite3.Connection, name: Path) -> None:
 
 
 def _kept(row: Sequence[Any]) -> KeptCredential:
-    """A row of the file. Raises `BadInput` or TypeError where it is no credential's."""
+    """A row of the file. Raises `BadInput` or TypeError if it is not a credential's."""
     _, identity, user, algorithm, x, y, count, eligible, retired, aaguid, created, used, transports = row
     limits.check_key(algorithm, x, b"" if y is None else y)
     limits.check_credential(algorithm, count)
@@ -68,7 +68,7 @@ def _kept(row: Sequence[Any]) -> KeptCredential:
 
 
 def _copied(file: Path, folder: str) -> Path:
-    """A copy of the file and its log, so that reading it changes neither."""
+    """A copy of the file and its log, so that reading changes neither."""
     copy = Path(folder) / "site.db"
     with _held(file) as opened, open(copy, "wb") as made:
         shutil.copyfileobj(opened, made)
@@ -79,8 +79,8 @@ def _copied(file: Path, folder: str) -> Path:
 
 
 def rows_of(file: str, told: Callable[[str], None]) -> Iterator[KeptCredential]:
-    """The credentials of a site's file, in order of registration, read from a copy. A row that is no credential is reported by its place,
-    and left out. Raises `BadInput` if the file is in use, has another version, or is damaged."""
+    """The credentials of a site's file, in order of registration, read from a copy. A row that is not a credential is reported by its
+    position, and left out. Raises `BadInput` if the file is in use, has another version, or is damaged."""
     with tempfile.TemporaryDirectory() as folder:
         # The log stands beside the file that a link leads to.
         copy = _copied(Path(file).resolve(), folder)
@@ -96,7 +96,7 @@ def rows_of(file: str, told: Callable[[str], None]) -> Iterator[KeptCredential]:
 
 
 def _added(server: SqlServer, kept: List[KeptCredential]) -> int:
-    """How many of these the tables did not have."""
+    """How many of these were not in the tables before."""
     def add(rows: Any) -> int:
         added = 0
         for one in kept:
@@ -111,7 +111,7 @@ def _added(server: SqlServer, kept: List[KeptCredential]) -> int:
 
 
 def to_database(file: str, server: SqlServer, told: Callable[[str], None]) -> bool:
-    """Moves a file's credentials into the tables; whether each is there then. One that is there already is left as it is."""
+    """Moves a file's credentials into the tables. Returns whether each is there then. One that is there already is left as it is."""
     amiss: List[str] = []
     batch: List[KeptCredential] = []
     moved = found = 0
@@ -130,7 +130,7 @@ def to_database(file: str, server: SqlServer, told: Callable[[str], None]) -> bo
 
 
 def _written(site: sqlite3.Connection, one: KeptCredential) -> bool:
-    """Whether the file did not have it."""
+    """Writes a row. Returns whether it is new."""
     added = site.execute(
         "insert into credential (id, user_handle, algorithm, x, y, sign_count, backup_eligible, retired) values (?, ?, ?, ?, ?, ?, ?, ?) "
         "on conflict (id) do nothing",
@@ -144,14 +144,14 @@ def _written(site: sqlite3.Connection, one: KeptCredential) -> bool:
 
 
 def _tabled(rows: Rows) -> Tuple[List[KeptCredential], int]:
-    """The tables' credentials, and how many rows are damaged, of which the logger `garvoeng` has the ids."""
+    """The credentials in the tables, and how many rows are damaged. The logger `garvoeng` has the ids of those."""
     kept = rows.credentials(None)
     return kept, int(rows.run("select count(*) from garvoeng_credential").fetchone()[0]) - len(kept)
 
 
 def to_file(server: SqlServer, file: str, told: Callable[[str], None]) -> bool:
-    """Moves the tables' credentials into a site's file that `passkey-site --no-sums` has made and no process has, in one transaction;
-    whether each is there then. One that is there already is left as it is."""
+    """Moves the tables' credentials, in one transaction, into a site's file that `passkey-site --no-sums` has made and that no process
+    uses. Returns whether each is there then. One that is there already is left as it is."""
     path = Path(file)
     with _held(path) as opened:
         header = opened.read(_RESERVED + 1)

@@ -1,5 +1,5 @@
-"""What a page is asked: PublicKeyCredentialCreationOptionsJSON and PublicKeyCredentialRequestOptionsJSON (WebAuthn Level 3,
-section 5.1)."""
+"""The options for a page: PublicKeyCredentialCreationOptionsJSON and PublicKeyCredentialRequestOptionsJSON (WebAuthn Level 3, section
+5.1)."""
 from __future__ import annotations
 
 import json
@@ -16,7 +16,7 @@ ATTACHMENTS = ("platform", "cross-platform")
 ATTESTATIONS = ("none", "indirect", "direct", "enterprise")
 HINTS = ("security-key", "client-device", "hybrid")
 MAX_OWN = 32_768
-"""The most bytes of the ids that are listed where a site gives no list."""
+"""The greatest total size, in bytes, of the listed ids if a site gives no list."""
 
 Requirement = Union[bool, str]
 Ids = Iterable[Union[bytes, Credential]]
@@ -29,7 +29,7 @@ def _one_of(value: Any, what: str, texts: Sequence[str]) -> str:
 
 
 def _requirement_of(value: Requirement, what: str, if_false: str) -> str:
-    """True is `required`; a text is itself."""
+    """True means `required`; a text stands for itself."""
     if value is True or value is False:
         return "required" if value else if_false
     if not isinstance(value, str) or value not in REQUIREMENTS:
@@ -38,12 +38,12 @@ def _requirement_of(value: Requirement, what: str, if_false: str) -> str:
 
 
 def user_verification_of(value: Requirement) -> str:
-    """False is `preferred`."""
+    """False means `preferred`."""
     return _requirement_of(value, "user_verification", "preferred")
 
 
 def _extensions(value: Mapping[str, Any]) -> Dict[str, Any]:
-    """Extensions as values of JSON."""
+    """Extensions as JSON values."""
     if not isinstance(value, Mapping):
         raise BadInput(f"extensions is a dict, as {{\"credProps\": True}}, and not {kind_of(value)}")
     extensions = dict(value)
@@ -70,8 +70,8 @@ def _more(timeout: Optional[int], hints: Sequence[str], extensions: Optional[Map
 
 def of_creation(user_verification: str, resident_key: Requirement, authenticator_attachment: Optional[str], attestation: str, timeout: Optional[int],
                 hints: Sequence[str], extensions: Optional[Mapping[str, Any]]) -> Dict[str, Any]:
-    """The members of creation options that no verdict looks at but by `user_verification` and `attestation` of the session (WebAuthn
-    Level 2, section 5.4). Raises `BadInput`."""
+    """The members of creation options that no verdict looks at, except through `user_verification` and `attestation` of the session
+    (WebAuthn Level 2, section 5.4). Raises `BadInput`."""
     kept = _requirement_of(resident_key, "resident_key", "discouraged")
     selection: Dict[str, Any] = {"residentKey": kept, "requireResidentKey": kept == "required",
                                  "userVerification": user_verification}
@@ -88,25 +88,24 @@ def of_request(user_verification: str, timeout: Optional[int], hints: Sequence[s
 
 
 def ids_of(ids: Ids, what: str, most: int = limits.MAX_LIST) -> "tuple[bytes, ...]":
-    """The ids of a list, so many at most."""
+    """The ids in a list of at most this many."""
     listed = limits.check_list(ids, what, "credentials or their ids")
     return limits.check_ids([one.id if isinstance(one, Credential) else one for one in listed], what, most)
 
 
 def fitting(rows: Sequence[Credential], most: int = limits.MAX_LIST) -> Sequence[Credential]:
-    """What is excluded where a site gives no list: those of an account's credentials for which a list and a line have room, the first
-    ones."""
+    """What is excluded if a site gives no list: the first of an account's credentials, as many as a list and a line have room for."""
     sizes = accumulate(len(row.id) for row in rows[:most])
     return rows[:sum(size <= MAX_OWN for size in sizes)]
 
 
 def allowed(own: Sequence[Credential], most: int = limits.MAX_LIST) -> Sequence[Credential]:
-    """What is listed where a site gives no list: all of an account's credentials, or none, so that any of them may answer."""
+    """What is listed if a site gives no list: all of an account's credentials, or none, so that any of them may answer."""
     return own if len(fitting(own, most)) == len(own) else ()
 
 
 def user_entity(user: bytes, user_name: str, display_name: Optional[str]) -> Dict[str, str]:
-    """A PublicKeyCredentialUserEntityJSON. Without a display name that is the name."""
+    """A PublicKeyCredentialUserEntityJSON. The display name is the name, if not given."""
     limits.check_text(user_name, "user_name")
     if display_name is not None:
         limits.check_text(display_name, "display_name")

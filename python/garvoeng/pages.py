@@ -1,4 +1,4 @@
-"""Files for the browser, limits, and what a visitor sends, of `garvoeng.web`."""
+"""Files for the browser, limits, and checks of what a visitor sends, for `garvoeng.web`."""
 from __future__ import annotations
 
 from pathlib import Path
@@ -10,24 +10,24 @@ from .forms import from_text
 from .rate_limit import RateLimit
 
 Limit = Callable[[Optional[str]], int]
-"""What tells how many seconds an address has to wait."""
+"""Returns how many seconds an address has to wait."""
 MAX_BODY = 128 * 1024
-"""The most bytes of a visitor's request."""
+"""The largest visitor's request, in bytes."""
 FRESH = 300
-"""How many seconds after a sign-in a passkey may be added to the account, if not said."""
+"""How many seconds after a sign-in a passkey may be added to the account, by default."""
 SIGN_IN_AGAIN = "sign in again: a passkey is added right after a sign-in"
 DAMAGED = "what is stored is damaged"
 TOO_OFTEN = "too many requests: try again later"
 TRY_AGAIN = "the site's storage did not answer: try again"
 MAX_NAME = 64
-"""The most characters of an account's name."""
+"""The longest name of an account, in characters."""
 _JOINERS = {0x200C: None, 0x200D: None}
 FILES = {"": ("passkeys.html", "text/html"), "passkeys.js": ("passkeys.js", "text/javascript"), "page.js": ("page.js", "text/javascript")}
 """The files and their types, by their paths."""
 
 
 def limit_of(said: Union[Limit, bool, None]) -> Limit:
-    """The limit that a site has: a `RateLimit` of its own, if not said, and none where it says False."""
+    """The limit that a site uses: a new `RateLimit` by default, and none if it is False."""
     if said is None:
         return RateLimit()
     if said is False:
@@ -38,7 +38,7 @@ def limit_of(said: Union[Limit, bool, None]) -> Limit:
 
 
 def wait_of(limit: Limit, address: Optional[str]) -> int:
-    """The seconds that an address has to wait."""
+    """How many seconds an address has to wait."""
     wait = limit(address)
     if not isinstance(wait, int) or isinstance(wait, bool) or wait < 0:
         refuse("rate_limit", wait, "whole seconds, 0 for none", awaited_in="")
@@ -50,7 +50,7 @@ def file(path: str) -> bytes:
 
 
 def name_in(said: Dict[str, Any]) -> str:
-    """An account's or a passkey's name: 1 to 64 characters that can be printed, or join those around them."""
+    """The name of an account or a passkey: 1 to 64 characters that can be printed, or join those around them."""
     name = said.get("name")
     if not isinstance(name, str) or not 1 <= len(name) <= MAX_NAME or not name.translate(_JOINERS) or not name.translate(_JOINERS).isprintable():
         raise BadInput(f"a name has 1 to {MAX_NAME} characters that can be printed")
@@ -58,5 +58,5 @@ def name_in(said: Dict[str, Any]) -> str:
 
 
 def id_in(said: Dict[str, Any]) -> bytes:
-    """A credential's id."""
+    """The id of a credential."""
     return from_text(said.get("id"), "id")

@@ -1,4 +1,4 @@
-"""How often a visitor may ask, by the address that asks."""
+"""Limits how often a visitor may ask, by the address of the request."""
 from __future__ import annotations
 
 import ipaddress
@@ -12,8 +12,8 @@ from .errors import BadInput
 
 
 class RateLimit:
-    """A token bucket for each address: `burst` requests at once, and `rate` a second from then on. An address of IPv6 counts by its
-    first 64 bits, which one visitor has. This machine's own addresses, and requests without one, are not limited: those are a proxy's,
+    """A token bucket for each address: `burst` requests at once, and `rate` a second from then on. An IPv6 address counts by its first 64
+    bits, which belong to one visitor. This machine's own addresses, and requests without one, are not limited: they come from a proxy,
     which has limits of its own. At most `addresses` are kept, in this process; the one that asked longest ago is forgotten.
     """
 
@@ -30,7 +30,7 @@ class RateLimit:
         self._had: OrderedDict[str, Tuple[float, float]] = OrderedDict()
 
     def __call__(self, address: Optional[str]) -> int:
-        """Counts a request: the seconds after which the address may ask again, 0 where it may ask now."""
+        """Counts a request. Returns how many seconds the address has to wait, 0 if it may ask now."""
         name = _counted(address)
         if name is None:
             return 0
@@ -46,7 +46,7 @@ class RateLimit:
 
 
 def _counted(address: Optional[str]) -> Optional[str]:
-    """What an address counts as; None where it is not limited."""
+    """What an address counts as; None if it is not limited."""
     try:
         one = ipaddress.ip_address((address or "").split("%")[0])
     except ValueError:

@@ -1,4 +1,4 @@
-"""What a site keeps between calls, in values that a database can hold."""
+"""What a site keeps between calls, as values that a database can store."""
 from __future__ import annotations
 
 import json
@@ -10,13 +10,13 @@ from .errors import BadInput, RowDamaged
 from .library import EDDSA, ES256, RS256
 
 Json = Union[str, Mapping[str, Any]]
-"""A text of JSON, or what it says."""
+"""JSON text, or the value that it has."""
 _TIME = 2**53 - 1
 Open = TypeVar("Open", "RegistrationSession", "SignInSession")
 
 
 def _object(value: Any, what: str) -> Mapping[str, Any]:
-    """The members of an object in JSON."""
+    """The members of a JSON object."""
     if isinstance(value, str):
         try:
             value = json.loads(value)
@@ -32,7 +32,7 @@ def _bytes(said: Mapping[str, Any], name: str) -> bytes:
 
 
 def _bytes_or_none(said: Mapping[str, Any], name: str) -> Optional[bytes]:
-    """What may be null, and may not be left out."""
+    """A member that may be null but may not be left out."""
     return None if name in said and said[name] is None else _bytes(said, name)
 
 
@@ -62,7 +62,7 @@ def _text_or_none(value: Optional[bytes]) -> Optional[str]:
 
 
 def _members(value: Json, wanted: str) -> Mapping[str, Any]:
-    """The members of a session in JSON. That which only one kind has is wanted as a list."""
+    """The members of a session in JSON. The member that only one kind has must be a list."""
     said = _object(value, "session")
     if not isinstance(said.get(wanted), list):
         raise BadInput(f"{wanted} is not an array")
@@ -72,30 +72,30 @@ def _members(value: Json, wanted: str) -> Mapping[str, Any]:
 
 @dataclass(frozen=True)
 class RegistrationSession:
-    """What a registration that has begun expects. It answers one response; the site deletes it then."""
+    """What a registration that has begun expects. It accepts one response; then the site deletes it."""
 
     challenge: bytes
-    """32 bytes, which no other session has."""
+    """32 bytes that no other session has."""
     user: bytes
     """The user handle of the account: 1 to 64 bytes."""
     user_verification: bool = False
     """Whether user verification is required."""
     algorithms: Tuple[int, ...] = (ES256, EDDSA, RS256)
-    """The COSE numbers that were offered."""
+    """The offered algorithms' COSE numbers."""
     conditional: bool = False
-    """Whether a browser may answer by itself, so that the user need not be present. Of the profile `level3`."""
+    """Whether a browser may answer by itself, so that the user need not be present. Only for the profile `level3`."""
     attestation: bool = True
-    """Whether an attestation was asked for: where it was not, the profile `level3` does not look at the statement."""
+    """Whether an attestation was asked for. If not, the profile `level3` does not look at the statement."""
 
     def to_json(self) -> Dict[str, Any]:
-        """The session as values of JSON; bytes in base64url."""
+        """Returns the session as JSON values, with bytes in base64url."""
         return {"challenge": forms.to_text(self.challenge), "user": forms.to_text(self.user),
                 "user_verification": bool(self.user_verification), "algorithms": list(self.algorithms),
                 "conditional": bool(self.conditional), "attestation": bool(self.attestation)}
 
     @classmethod
     def from_json(cls, value: Json) -> "RegistrationSession":
-        """The session of what `to_json` gave, or of its text. Raises `BadInput`, also of a sign-in's."""
+        """Reads a session from the result of `to_json`, or from its text. Raises `BadInput`, also for a sign-in's."""
         said = _members(value, "algorithms")
         # An older session has neither.
         said = {"conditional": False, "attestation": True, **said}
@@ -105,32 +105,32 @@ class RegistrationSession:
 
 @dataclass(frozen=True)
 class SignInSession:
-    """What a sign-in that has begun expects. It answers one response; the site deletes it then."""
+    """What a sign-in that has begun expects. It accepts one response; then the site deletes it."""
 
     challenge: bytes
-    """32 bytes, which no other session has."""
+    """32 bytes that no other session has."""
     user: Optional[bytes] = None
-    """The user handle of the account, where it is known beforehand."""
+    """The user handle of the account, if it is known beforehand."""
     allow: Tuple[bytes, ...] = ()
-    """The ids of the credentials that may answer; none for any."""
+    """The ids of the credentials that may answer; empty for any."""
     user_verification: bool = False
     """Whether user verification is required."""
 
     def to_json(self) -> Dict[str, Any]:
-        """The session as values of JSON; bytes in base64url."""
+        """Returns the session as JSON values, with bytes in base64url."""
         return {"challenge": forms.to_text(self.challenge), "user": _text_or_none(self.user),
                 "allow": [forms.to_text(one) for one in self.allow], "user_verification": bool(self.user_verification)}
 
     @classmethod
     def from_json(cls, value: Json) -> "SignInSession":
-        """The session of what `to_json` gave, or of its text. Raises `BadInput`, also of a registration's."""
+        """Reads a session from the result of `to_json`, or from its text. Raises `BadInput`, also for a registration's."""
         said = _members(value, "allow")
         return cls(_bytes(said, "challenge"), _bytes_or_none(said, "user"), tuple(forms.from_text(one, "allow") for one in said["allow"]),
                    said["user_verification"])
 
 
 def open_session(kind: Type[Open], value: Json) -> Open:
-    """The session of a row. Raises `BadInput`."""
+    """The session in a row. Raises `BadInput`."""
     session = kind.from_json(value)
     if len(session.challenge) != 32:
         raise BadInput("the challenge is not of 32 bytes")
@@ -145,25 +145,26 @@ class Credential:
     user: bytes
     """The user handle."""
     algorithm: int
-    """Of the public key: -7, ES256, -8, EdDSA, or -257, RS256."""
+    """The public key's algorithm: -7 (ES256), -8 (EdDSA) or -257 (RS256)."""
     x: bytes
-    """32 bytes; of RS256 the modulus, big-endian, of 256, 384 or 512."""
+    """32 bytes; for RS256 the modulus, big-endian, 256, 384 or 512 bytes."""
     y: bytes
-    """32 bytes; of EdDSA none; of RS256 the public exponent, big-endian, of 1 to 4."""
+    """32 bytes; empty for EdDSA; for RS256 the public exponent, big-endian, 1 to 4 bytes."""
     sign_count: int
-    """The signature counter last received."""
+    """The signature counter received last."""
     eligible: Optional[bool]
-    """Whether it is eligible for backup, where that is known."""
+    """Whether it is eligible for backup; None if that is not known."""
     retired: bool = False
-    """Whether it signs in no more."""
+    """Whether it can no longer sign in."""
     transports: Tuple[str, ...] = ()
-    """How the page said that the authenticator is reached, as `usb` or `internal` (WebAuthn Level 2, section 5.8.4), for later lists."""
+    """How the authenticator can be reached, as the page reported it: for example `usb` or `internal` (WebAuthn Level 2, section 5.8.4).
+    Used in later lists."""
 
     @classmethod
     def from_cose(cls, id: bytes, user: bytes, cose_key: bytes, sign_count: int, eligible: Optional[bool] = None,
                   retired: bool = False, transports: Iterable[str] = ()) -> "Credential":
-        """A credential whose key is given as COSE_Key bytes (RFC 9052, section 7), as other libraries store it. Raises
-        `BadInput` where they are not those of a key of ES256, EdDSA or RS256 in canonical CBOR."""
+        """Makes a credential from COSE_Key bytes (RFC 9052, section 7), which other libraries store. Raises `BadInput` if they are not a
+        key of ES256, EdDSA or RS256 in canonical CBOR."""
         key = library.key_from_cose(bytes(cose_key))
         if key is None:
             raise BadInput("cose_key is not a COSE_Key of ES256, EdDSA or RS256 in canonical CBOR")
@@ -171,22 +172,22 @@ class Credential:
 
     @property
     def cose_key(self) -> bytes:
-        """The public key as COSE_Key bytes (RFC 9052, section 7), in canonical CBOR. Raises `BadInput` where the algorithm, x
-        or y is out of its limits."""
+        """Returns the public key as COSE_Key bytes (RFC 9052, section 7), in canonical CBOR. Raises `BadInput` if the algorithm, x or y is
+        out of its limits."""
         cose_key = library.key_to_cose(self.algorithm, self.x, self.y) if self.algorithm in (ES256, EDDSA, RS256) else b""
         if not cose_key:
             raise BadInput("the key is out of its limits")
         return cose_key
 
     def to_json(self) -> Dict[str, Any]:
-        """The credential as values of JSON; bytes in base64url."""
+        """Returns the credential as JSON values, with bytes in base64url."""
         return {"id": forms.to_text(self.id), "user": forms.to_text(self.user), "algorithm": self.algorithm, "x": forms.to_text(self.x),
                 "y": forms.to_text(self.y), "sign_count": self.sign_count, "eligible": self.eligible, "retired": self.retired,
                 "transports": list(self.transports)}
 
     @classmethod
     def from_json(cls, value: Json) -> "Credential":
-        """The credential of what `to_json` gave, or of its text. Members of other names are passed over. Raises `BadInput`."""
+        """Reads a credential from the result of `to_json`, or from its text. Members with other names are ignored. Raises `BadInput`."""
         return cls(*_credential_in(_object(value, "credential")))
 
 
@@ -205,25 +206,25 @@ def _credential_in(said: Mapping[str, Any]) -> Tuple[bytes, bytes, int, bytes, b
 
 @dataclass(frozen=True)
 class KeptCredential(Credential):
-    """A credential's row, and what is known of it. What was never kept is None."""
+    """A credential's row, and what is known of it. Values that were never kept are None."""
 
     aaguid: Optional[bytes] = None
-    """The kind of the authenticator, by its own word: 16 bytes."""
+    """The model of the authenticator, as it reports it: 16 bytes."""
     backed_up: Optional[bool] = None
-    """Whether it was backed up at the last sign-in (BS); the file of `StoredServer` does not have it."""
+    """Whether it was backed up at the last sign-in (BS). The file of `StoredServer` does not have it."""
     created_at: Optional[int] = None
-    """When it was registered: seconds since 1970."""
+    """When it was registered, in seconds since 1970."""
     used_at: Optional[int] = None
-    """When it signed in last: seconds since 1970; None where it never did."""
+    """When it last signed in, in seconds since 1970; None if it never did."""
 
     def to_json(self) -> Dict[str, Any]:
-        """The row as values of JSON; bytes in base64url."""
+        """Returns the row as JSON values, with bytes in base64url."""
         return {**super().to_json(), "aaguid": _text_or_none(self.aaguid), "backed_up": self.backed_up, "created_at": self.created_at,
                 "used_at": self.used_at}
 
     @classmethod
     def from_json(cls, value: Json) -> "KeptCredential":
-        """The row of what `to_json` gave, or of its text. Raises `BadInput`, also of a `Credential` alone."""
+        """Reads a row from the result of `to_json`, or from its text. Raises `BadInput`, also for a mere `Credential`."""
         said = _object(value, "credential")
         aaguid = _bytes_or_none(said, "aaguid")
         return cls(*_credential_in(said), None if aaguid is None else limits.check_aaguid(aaguid), _flag_or_none(said, "backed_up"),
@@ -231,7 +232,7 @@ class KeptCredential(Credential):
 
 
 def check_row(row: Credential) -> None:
-    """Raises `RowDamaged` where a row of a host's own is none that this package writes."""
+    """Raises `RowDamaged` if a row from a host is not one that this package writes."""
     try:
         if isinstance(row, KeptCredential):
             KeptCredential.from_json(KeptCredential.to_json(row))
@@ -242,38 +243,38 @@ def check_row(row: Credential) -> None:
 
 
 def _told(accepted: Union["Registered", "SignedIn"]) -> Dict[str, Any]:
-    """What the authenticator said, as values of JSON."""
+    """What the authenticator reported, as JSON values."""
     return {"user_verified": accepted.user_verified, "backed_up": accepted.backed_up, "flags": accepted.flags,
             "extensions": forms.to_text(accepted.extensions)}
 
 
 @dataclass(frozen=True)
 class Registered:
-    """A registration that was accepted."""
+    """An accepted registration."""
 
     credential: Credential
-    """To be stored."""
+    """The credential to store."""
     aaguid: bytes
-    """The kind of the authenticator, by its own word: 16 bytes, of which many keys send zeros."""
+    """The model of the authenticator, as it reports it: 16 bytes. Many keys send zeros."""
     format: str
-    """How the credential is attested: `none`, or `packed`, by a signature of its own key."""
+    """How the credential is attested: `none`, or `packed`, a signature of its own key."""
     user_verified: bool
     """Whether the user was verified (UV)."""
     backed_up: bool
     """Whether the credential is backed up now (BS)."""
     flags: int
-    """The flags of the authenticator data, by their bits (WebAuthn Level 2, section 6.1)."""
+    """The flag bits of the authenticator data (WebAuthn Level 2, section 6.1)."""
     extensions: bytes
-    """The authenticator's extension outputs, one map of CBOR; none where there is none."""
+    """The authenticator's extension outputs, one CBOR map; empty if there are none."""
 
 
     def to_json(self) -> Dict[str, Any]:
-        """The registration as values of JSON; bytes in base64url."""
+        """Returns the registration as JSON values, with bytes in base64url."""
         return {"credential": self.credential.to_json(), "aaguid": forms.to_text(self.aaguid), "format": self.format, **_told(self)}
 
     @classmethod
     def from_json(cls, value: Json) -> "Registered":
-        """The registration of what `to_json` gave, or of its text. Raises `BadInput`, also of a sign-in."""
+        """Reads a registration from the result of `to_json`, or from its text. Raises `BadInput`, also for a sign-in."""
         said = _object(value, "registration")
         form = said.get("format")
         if not isinstance(form, str) or form not in library.FORMATS:
@@ -291,29 +292,30 @@ def _credential_of(said: Mapping[str, Any], name: str) -> Credential:
 
 @dataclass(frozen=True)
 class SignedIn:
-    """A sign-in that was accepted."""
+    """An accepted sign-in."""
 
     credential: Credential
-    """The credential with the counter that was received: of `Server` as it is to be stored from now on, of the others as it is stored."""
+    """The credential with the counter that was received. With `Server` this is what to store from now on; the other servers have stored
+    it."""
     before: Optional[Credential]
-    """Of `Server` the credential that the verdict was given for. Store the new one only where the stored one still has this counter
-    and isn't retired, in one transaction with the end of the session. None of a server that has done so."""
+    """With `Server`, the credential that was verified against. Store the new one only if the stored one still has this counter and isn't
+    retired, in one transaction with the end of the session. None with a server that has done so."""
     backed_up: bool
     """Whether it is backed up now (BS)."""
     user_verified: bool
     """Whether the user was verified (UV)."""
     flags: int
-    """The flags of the authenticator data, by their bits (WebAuthn Level 2, section 6.1)."""
+    """The flag bits of the authenticator data (WebAuthn Level 2, section 6.1)."""
     extensions: bytes
-    """The authenticator's extension outputs, one map of CBOR; none where there is none."""
+    """The authenticator's extension outputs, one CBOR map; empty if there are none."""
 
     def to_json(self) -> Dict[str, Any]:
-        """The sign-in as values of JSON; bytes in base64url."""
+        """Returns the sign-in as JSON values, with bytes in base64url."""
         return {"credential": self.credential.to_json(), "before": None if self.before is None else self.before.to_json(), **_told(self)}
 
     @classmethod
     def from_json(cls, value: Json) -> "SignedIn":
-        """The sign-in of what `to_json` gave, or of its text. Raises `BadInput`, also of a registration."""
+        """Reads a sign-in from the result of `to_json`, or from its text. Raises `BadInput`, also for a registration."""
         said = _object(value, "sign-in")
         before = None if "before" in said and said["before"] is None else _credential_of(said, "before")
         return cls(_credential_of(said, "credential"), before, _flag(said, "backed_up"), _flag(said, "user_verified"),

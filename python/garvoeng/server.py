@@ -1,4 +1,4 @@
-"""A relying party over the proved steps. It keeps nothing: sessions and credentials are the site's."""
+"""A relying party over the proved steps. It keeps nothing: the site stores the sessions and credentials."""
 from __future__ import annotations
 
 import os
@@ -42,14 +42,14 @@ def verify_of(verify: Optional[Verify]) -> Verify:
 
 
 def _credential(found: Any) -> Optional[Credential]:
-    """What a look-up answered."""
+    """What a look-up returned."""
     if found is not None and not isinstance(found, Credential):
         answers.refuse("credential", found, "a Credential or None")
     return found
 
 
 class _OfRow:
-    """Raises `RowDamaged` in place of an error by which a verdict fails where the row that was found is damaged."""
+    """Raises `RowDamaged` in place of an error of the verdict if the row that was found is damaged."""
 
     def __init__(self, found: Optional[Credential]) -> None:
         self._found = found
@@ -63,7 +63,7 @@ class _OfRow:
 
 
 def _open(session: Any, kind: Type[Open]) -> Optional[Open]:
-    """The session that is open, or None. A text is none: the page's visitor may have written it."""
+    """The open session, or None. A text counts as none, because the page's visitor may have written it."""
     if session is None or isinstance(session, str):
         return None
     if not isinstance(session, kind):
@@ -74,9 +74,10 @@ def _open(session: Any, kind: Type[Open]) -> Optional[Open]:
 class Server:
     """A relying party: an rp id and the origins of its pages.
 
-    `profile` says which responses it takes: `level3`, as browsers send them today, `open` or `strict` (docs/LIMITS.md).
-    `top_origins` are the origins of other sites' pages that may have this site's in a frame: in `level3` a response that was
-    made in any other frame is refused. `accept_none` and `accept_self` say which attestation is taken. `verify(algorithm, x, y, message, signature)` tells whether a signature is valid; by default `cryptography` does.
+    `profile` says which responses it accepts: `level3`, as browsers send them today, `open` or `strict` (docs/LIMITS.md). `top_origins` are
+    the origins of other sites' pages that may have this site's in a frame: in `level3` a response that was made in any other frame is
+    refused. `accept_none` and `accept_self` say which attestation is accepted. `verify(algorithm, x, y, message, signature)` returns
+    whether a signature is valid; by default `cryptography` checks it.
     """
 
     def __init__(self, rp_id: str, origins: Sequence[str], rp_name: Optional[str] = None, *, accept_none: bool = True,
@@ -118,14 +119,15 @@ class Server:
                        algorithms: Sequence[int] = (ES256, EDDSA, RS256), authenticator_attachment: Optional[str] = None,
                        attestation: str = "none", conditional: bool = False, timeout: Optional[int] = None, hints: Sequence[str] = (),
                        extensions: Optional[Mapping[str, Any]] = None) -> Tuple[Dict[str, Any], RegistrationSession]:
-        """PublicKeyCredentialCreationOptionsJSON for the page, and the session that the site keeps (WebAuthn Level 2, section 5.4).
+        """Returns PublicKeyCredentialCreationOptionsJSON for the page, and the session, which the site keeps (WebAuthn Level 2, section
+        5.4).
 
-        `user` is the user handle, 1 to 64 bytes that name nobody; `exclude` are the account's credentials or their ids, 64 at most.
+        `user` is the user handle, 1 to 64 bytes that name nobody; `exclude` has the account's credentials or their ids, 64 at most.
         `user_verification` is true (`required`), false (`preferred`) or `discouraged`; `resident_key` is true (`required`), false
-        (`discouraged`) or `preferred`. `authenticator_attachment` is `platform` or `cross-platform`, `attestation` `none`, `indirect`, `direct` or
-        `enterprise`; `conditional` is for a page that lets the browser make a passkey by itself after another sign-in (Level 3,
-        section 5.1.3, `mediation`): then nobody need be present. Both are looked at in the profile `level3`. `timeout` is milliseconds, `hints` a list of
-        `security-key`, `client-device` and `hybrid`; `extensions` go to the page as they are. Raises `BadInput`.
+        (`discouraged`) or `preferred`. `authenticator_attachment` is `platform` or `cross-platform`; `attestation` is `none`, `indirect`,
+        `direct` or `enterprise`; `conditional` is for a page that lets the browser make a passkey by itself after another sign-in (Level 3,
+        section 5.1.3, `mediation`): then nobody need be present. The profile `level3` looks at both. `timeout` is in milliseconds; `hints`
+        is a list of `security-key`, `client-device` and `hybrid`; `extensions` go to the page unchanged. Raises `BadInput`.
         """
         listed = limits.check_list(exclude, "exclude", "credentials or their ids")
         verification = options.user_verification_of(user_verification)
@@ -138,11 +140,11 @@ class Server:
 
     def register_complete(self, session: Optional[RegistrationSession], response: Mapping[str, Any], *,
                           is_registered: Callable[[bytes], bool], is_full: bool = False) -> Registered:
-        """What a RegistrationResponseJSON registers: the credential, to be stored, and what is known of it.
+        """Returns the registration of a RegistrationResponseJSON: the credential to store, and what is known of it.
 
-        `session` is None where none is open; a text counts as None. `is_registered(id)` tells whether a credential has the id, to anyone,
-        retired or not. Raises `Refused` with the first step that is not passed, `BadInput` where the response is not
-        in the form of JSON.
+        `session` is None if none is open; a text counts as None. `is_registered(id)` returns whether a credential has the id, of any user,
+        retired or not. Raises `Refused` with the first step that the response does not pass, and `BadInput` if it is not in the form of
+        JSON.
         """
         begun = _open(session, RegistrationSession)
         parts, transports = forms.registration_parts(response), forms.transports_of(response)
@@ -152,7 +154,7 @@ class Server:
     async def register_complete_async(self, session: Optional[RegistrationSession], response: Mapping[str, Any], *,
                                       is_registered: Callable[[bytes], Union[bool, Awaitable[bool]]],
                                       is_full: bool = False) -> Registered:
-        """The same, where what `is_registered` and `verify` give is awaited, if it can be."""
+        """The same, but what `is_registered` and `verify` return is awaited, if it can be."""
         begun = _open(session, RegistrationSession)
         parts, transports = forms.registration_parts(response), forms.transports_of(response)
         is_taken = answers.is_true("is_registered", await answers.awaited(is_registered(parts[0])))
@@ -160,7 +162,8 @@ class Server:
 
     def register_complete_parts(self, session: Optional[RegistrationSession], attestation_object: bytes, client_data: bytes, *,
                                 raw_id: bytes, is_registered: bool, is_full: bool = False, transports: Sequence[str] = ()) -> Registered:
-        """The same for the response's parts. `raw_id` is the response's `rawId`, and `is_registered` says whether a credential has it."""
+        """The same for the parts of the response. `raw_id` is the response's `rawId`, and `is_registered` says whether a credential has
+        it."""
         return self._registered(_open(session, RegistrationSession), limits.check_flag(is_registered, "is_registered"), (raw_id, client_data, attestation_object), is_full,
                                 transports, answers.waiting(self.verify))
 
@@ -187,10 +190,11 @@ class Server:
     def authenticate_begin(self, *, user: Optional[bytes] = None, allow: Ids = (), user_verification: Requirement = False,
                            timeout: Optional[int] = None, hints: Sequence[str] = (),
                            extensions: Optional[Mapping[str, Any]] = None) -> Tuple[Dict[str, Any], SignInSession]:
-        """PublicKeyCredentialRequestOptionsJSON for the page, and the session that the site keeps (WebAuthn Level 2, section 5.5).
+        """Returns PublicKeyCredentialRequestOptionsJSON for the page, and the session, which the site keeps (WebAuthn Level 2, section
+        5.5).
 
-        `user` is the user handle of the account, where it is known; `allow` the credentials that may answer, or their ids, 64 at
-        most, none for any. The others are as in `register_begin`.
+        `user` is the user handle of the account, if it is known; `allow` has the credentials that may answer, or their ids, 64 at most;
+        leave it empty for any. The other parameters are as in `register_begin`.
         """
         listed = limits.check_list(allow, "allow", "credentials or their ids")
         verification = options.user_verification_of(user_verification)
@@ -201,11 +205,11 @@ class Server:
 
     def authenticate_complete(self, session: Optional[SignInSession], response: Mapping[str, Any], *,
                               credential: Callable[[bytes], Optional[Credential]]) -> SignedIn:
-        """Who signed in, of an AuthenticationResponseJSON: the credential as it is to be stored from now on.
+        """Returns the sign-in of an AuthenticationResponseJSON: the credential to store from now on.
 
-        `session` is None where none is open; a text counts as None. `credential(id)` answers the site's credential of the id, or None. Raises
-        `Refused` with the first step that is not passed, `BadInput` where the response is not in the form of JSON, `RowDamaged` where the
-        credential is none that this package writes.
+        `session` is None if none is open; a text counts as None. `credential(id)` returns the site's credential with this id, or None.
+        Raises `Refused` with the first step that the response does not pass, `BadInput` if it is not in the form of JSON, and `RowDamaged`
+        if the credential is not one that this package writes.
         """
         begun = _open(session, SignInSession)
         parts = forms.sign_in_parts(response)
@@ -216,7 +220,7 @@ class Server:
     async def authenticate_complete_async(
             self, session: Optional[SignInSession], response: Mapping[str, Any], *,
             credential: Callable[[bytes], Union[None, Credential, Awaitable[Optional[Credential]]]]) -> SignedIn:
-        """The same, where what `credential` and `verify` give is awaited, if it can be."""
+        """The same, but what `credential` and `verify` return is awaited, if it can be."""
         begun = _open(session, SignInSession)
         parts = forms.sign_in_parts(response)
         found = _credential(await answers.awaited(credential(parts[0])))
@@ -226,7 +230,7 @@ class Server:
     def authenticate_complete_parts(self, session: Optional[SignInSession], credential: Optional[Credential],
                                     raw_id: bytes, user: Optional[bytes], auth_data: bytes, signature: bytes,
                                     client_data: bytes) -> SignedIn:
-        """The same for the response's parts and the credential that was found."""
+        """The same for the parts of the response and the credential that was found."""
         return self._signed_in(_open(session, SignInSession), credential, (raw_id, client_data, auth_data, signature, user), answers.waiting(self.verify))
 
     def _signed_in(self, session: Optional[SignInSession], credential: Optional[Credential], parts: forms.SignInParts,
@@ -254,24 +258,24 @@ class Server:
     # ---- what a site tells browsers
 
     def related_origins(self) -> Dict[str, Any]:
-        """What `https://RP_ID/.well-known/webauthn` answers, so that pages of these origins may use this rp id (WebAuthn Level 3,
-        section 5.11)."""
+        """The body for `https://RP_ID/.well-known/webauthn`, which lets pages of these origins use this rp id (WebAuthn Level 3, section
+        5.11)."""
         return {"origins": [origin for origin in self._origins if origin.startswith("https://")]}
 
     def signal_unknown_credential(self, credential_id: bytes) -> Dict[str, str]:
-        """What the page hands to `PublicKeyCredential.signalUnknownCredential` after a sign-in was refused by W3 (WebAuthn Level 3,
+        """What the page passes to `PublicKeyCredential.signalUnknownCredential` after a sign-in was refused with W3 (WebAuthn Level 3,
         section 5.1.10)."""
         return {"rpId": self._rp_id, "credentialId": forms.to_text(limits.check_id(credential_id, "credential_id"))}
 
     def signal_all_accepted(self, user: bytes, credentials: Ids) -> Dict[str, Any]:
-        """What the page hands to `signalAllAcceptedCredentials`, of a user who is signed in: all of his credentials that may sign in, or
-        their ids. A passkey that is left out is hidden or deleted."""
+        """What the page passes to `signalAllAcceptedCredentials` for a user who is signed in: all of the user's credentials that may sign
+        in, or their ids. A passkey that is left out is hidden or deleted."""
         listed = limits.check_list(credentials, "credentials", "credentials or their ids")
         accepted = [one for one in listed if not (isinstance(one, Credential) and one.retired)]
         return {"rpId": self._rp_id, "userId": forms.to_text(limits.check_user(user)),
                 "allAcceptedCredentialIds": [forms.to_text(one) for one in options.ids_of(accepted, "credentials", len(accepted))]}
 
     def signal_user_details(self, user: bytes, user_name: str, display_name: Optional[str] = None) -> Dict[str, str]:
-        """What the page hands to `signalCurrentUserDetails` where an account's names changed."""
+        """What the page passes to `signalCurrentUserDetails` when an account's names have changed."""
         named = options.user_entity(limits.check_user(user), user_name, display_name)
         return {"rpId": self._rp_id, "userId": named.pop("id"), **named}

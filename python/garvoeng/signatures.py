@@ -11,13 +11,13 @@ from cryptography.hazmat.primitives.asymmetric import ec, ed25519, padding, rsa
 from .library import EDDSA, ES256, RS256
 
 MAX_KEYS = 4096
-"""The most public keys that are kept from one sign-in to the next. The least used one goes."""
+"""How many public keys are kept from one sign-in to the next. The least used one is dropped."""
 
 
 @lru_cache(MAX_KEYS)
 def _checked_by(algorithm: int, x: bytes, y: bytes) -> Callable[[bytes, bytes], None]:
-    """What verifies by this key: of a signature and a message, as `cryptography` does. To make a key anew takes a quarter of the time
-    of a verification. Raises ValueError where there is no such key."""
+    """The function that verifies with this key: takes a signature and a message, as in `cryptography`. Making a key anew takes a quarter of
+    the time of a verification. Raises ValueError if there is no such key."""
     if algorithm == ES256:
         es256 = ec.EllipticCurvePublicKey.from_encoded_point(ec.SECP256R1(), b"\x04" + x + y)
         digest = ec.ECDSA(hashes.SHA256())
@@ -31,8 +31,8 @@ def _checked_by(algorithm: int, x: bytes, y: bytes) -> Callable[[bytes, bytes], 
 
 
 def is_valid(algorithm: int, x: bytes, y: bytes, message: bytes, signature: bytes) -> bool:
-    """Whether the signature is valid: ES256 over P-256, in DER, EdDSA over Ed25519, or RS256, by PKCS #1
-    v1.5 with SHA-256, where x is the modulus and y the public exponent."""
+    """Whether the signature is valid: ES256 over P-256, in DER, EdDSA over Ed25519, or RS256, which is PKCS #1 v1.5 with SHA-256; for RS256
+    x is the modulus and y the public exponent."""
     try:
         _checked_by(algorithm, x, y)(signature, message)
     except (InvalidSignature, ValueError):

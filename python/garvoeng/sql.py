@@ -1,5 +1,6 @@
-"""A relying party whose sessions and credentials are rows of SQLite or PostgreSQL, by DB-API (PEP 249): `sqlite3`, `psycopg`,
-`psycopg2`, their pools, and an engine of SQLAlchemy over them. Each call is one transaction by the rules of docs/OPERATING.md, so that any number of processes may share a database."""
+"""A relying party whose sessions and credentials are rows in SQLite or PostgreSQL, through DB-API (PEP 249): `sqlite3`, `psycopg`,
+`psycopg2`, their pools, and an engine of SQLAlchemy over them. Each call is one transaction by the rules of docs/OPERATING.md, so any
+number of processes may share a database."""
 from __future__ import annotations
 
 import inspect
@@ -22,30 +23,32 @@ from .sql_rows import KeptSignIn, Rows
 __all__ = ["LIFETIME", "SIGNED_IN", "KeptSignIn", "Rows", "SqlServer"]
 
 SIGNED_IN = 14 * 24 * 3600
-"""How many seconds a visitor stays signed in, if not said."""
+"""How many seconds a visitor stays signed in by default."""
 TRIES = 8
-"""How often a transaction is made where another one is in its way."""
+"""How often a transaction is tried if another one is in its way."""
 
 Answered = TypeVar("Answered")
 Hook = Callable[[Rows, Any], Any]
-"""What a site does with its own rows, in the transaction of a call: `rows.run(statement, *values)`, whose values stand as `?`."""
+"""A site's function that changes its own rows in the transaction of a call: `rows.run(statement, *values)`, with `?` in place of each
+value."""
 
 
 class SqlServer:
     """`Server` with its sessions and credentials in the tables `garvoeng_credential` and `garvoeng_session`.
 
-    `connect` is a pool (of psycopg_pool or psycopg2, or what has `getconn` and `putconn`, or `connection`), an engine of SQLAlchemy, or a
-    function that opens a connection, as `lambda: sqlite3.connect("site.sqlite", timeout=30)` or `lambda: psycopg.connect(address)`, or a
-    context manager of one. Each call takes one, and gives it back or closes it; what rows the connection makes, and whether it commits by
-    itself, is the same. `lifetime` is how many seconds a session stays open. Call `prepare` before the first call.
+    `connect` is a pool (of psycopg_pool or psycopg2, or any object with `getconn` and `putconn`, or `connection`), an engine of SQLAlchemy,
+    or a function that opens a connection, such as `lambda: sqlite3.connect("site.sqlite", timeout=30)` or `lambda:
+    psycopg.connect(address)`, or a context manager of one. Each call takes one, and gives it back or closes it; it does not matter what
+    rows the connection makes, or whether it commits by itself. `lifetime` is how many seconds a session stays open. Call `prepare` before
+    the first call.
 
-    `on_registered(rows, registered)`, `on_signed_in(rows, signed_in)` and `on_erased(rows, user)` are made in the transaction of the call
-    that stores it: what they raise is raised, and nothing is stored then. Where another transaction is in the way (a serialization failure
-    or a deadlock) a call is made again, eight times at most, and they with it.
+    `on_registered(rows, registered)`, `on_signed_in(rows, signed_in)` and `on_erased(rows, user)` run in the transaction of the call that
+    stores the change: an exception from one is raised, and then nothing is stored. If another transaction is in the way (a serialization
+    failure or a deadlock), the call is repeated together with them, eight times at most.
 
-    Raises what `Server` raises, and what the database does; then nothing was changed, but that a commit whose answer was lost is done or is
-    not. A row that is damaged is `RowDamaged` or `SessionDamaged`, where it is the one that is asked for. Where another sign-in of the
-    credential was accepted meanwhile that is `Refused` with W15, and where its id was registered meanwhile with G15.
+    Raises what `Server` raises, and what the database raises; then nothing was changed, except that a commit whose answer was lost may or
+    may not be done. Raises `RowDamaged` or `SessionDamaged` if the row that is asked for is damaged, and `Refused` with W15 if another
+    sign-in with the credential was accepted meanwhile, or with G15 if its id was registered meanwhile.
     """
 
     tries = TRIES
@@ -66,7 +69,7 @@ class SqlServer:
 
     @contextmanager
     def transaction(self, *, writes: bool = True) -> Iterator[Rows]:
-        """The rows, in a transaction: it commits at the end, and rolls back at an exception. One that only reads waits for nobody."""
+        """The rows, in a transaction: it commits at the end, and rolls back on an exception. One that only reads waits for nobody."""
         with sql_connections.borrowed(self.connect) as connection:
             if self._is_sqlite is None:
                 self._is_sqlite = sql_connections.is_sqlite(connection)
@@ -74,7 +77,7 @@ class SqlServer:
                 yield Rows(cursor, self._is_sqlite, "?" if self._is_sqlite else "%s")
 
     def within(self, work: Callable[[Rows], Answered], *, writes: bool = True) -> Answered:
-        """What `work(rows)` gives, in a transaction, which is made again where another one was in its way."""
+        """Returns the result of `work(rows)`, run in a transaction that is repeated if another one was in its way."""
         for tried in range(1, self.tries + 1):
             try:
                 with self.transaction(writes=writes) as rows:
@@ -86,7 +89,7 @@ class SqlServer:
         raise AssertionError("a call is made once or more")
 
     def _tell(self, name: str, hook: Optional[Hook], rows: Rows, told: Any) -> None:
-        """Calls a hook of the site's."""
+        """Calls one of the site's hooks."""
         if hook is None:
             return
         said = hook(rows, told)
@@ -97,16 +100,16 @@ class SqlServer:
 
     def prepare(self) -> None:
         """Makes the tables, or brings those of an older version up to this one. Any number of processes may call it at once. Raises
-        `BadInput` where they are of a later version."""
+        `BadInput` if they are of a later version."""
         self.within(Rows.prepare)
 
     # ---- registration
 
     def register_begin(self, user: bytes, user_name: str, display_name: Optional[str] = None, *, exclude: Optional[Ids] = None,
                        sign_in: Optional[str] = None, **how: Any) -> Tuple[Dict[str, Any], str]:
-        """The options for the page, and the session's id, which only this visitor may have. `how` is as in `Server.register_begin`;
-        the account's passkeys are excluded, unless a list is given. With `sign_in`, the number of `keep_sign_in`, the registration is
-        that visitor's: it is finished with the same number alone, while it is signed in."""
+        """Returns the options for the page, and the session's id, which only this visitor may have. `how` is as in `Server.register_begin`;
+        the account's passkeys are excluded, unless a list is given. With `sign_in`, a number from `keep_sign_in`, the registration belongs
+        to that visitor: it can be finished only with the same number, while the visitor is signed in."""
         handle = limits.check_user(user)
 
         def begin(rows: Rows) -> Tuple[Dict[str, Any], str]:
@@ -121,12 +124,13 @@ class SqlServer:
 
     async def register_begin_async(self, user: bytes, user_name: str, display_name: Optional[str] = None,
                                    **how: Any) -> Tuple[Dict[str, Any], str]:
-        """The same, awaited: a thread of the loop makes the call, with a connection of its own. Where the wait is cancelled, the
-        transaction is made or is not."""
+        """The same, awaited: a thread of the loop makes the call, with its own connection. If the wait is cancelled, the transaction may or
+        may not be made."""
         return await in_thread(self.register_begin, user, user_name, display_name, **how)
 
     def register_complete(self, session: Optional[str], response: Mapping[str, Any], *, sign_in: Optional[str] = None) -> Registered:
-        """What a RegistrationResponseJSON registers; it is stored, and the session closed. `sign_in` is that of the begin."""
+        """Returns what a RegistrationResponseJSON registers, stores it, and closes the session. `sign_in` is the number given to the
+        begin."""
         number = limits.check_session(session)
 
         def complete(rows: Rows) -> Registered:
@@ -139,15 +143,15 @@ class SqlServer:
 
     async def register_complete_async(self, session: Optional[str], response: Mapping[str, Any], *,
                                       sign_in: Optional[str] = None) -> Registered:
-        """The same, awaited as `register_begin_async`; what `verify` gives is awaited too, if it can be."""
+        """The same, awaited like `register_begin_async`; what `verify` returns is awaited too, if it can be."""
         return await in_thread(self.register_complete, session, response, sign_in=sign_in)
 
     # ---- sign-in
 
     def authenticate_begin(self, *, user: Optional[bytes] = None, allow: Optional[Ids] = None, **how: Any) -> Tuple[Dict[str, Any], str]:
-        """The options for the page, and the session's id, which only this visitor may have. `how` is as in
-        `Server.authenticate_begin`. Where the account is known its passkeys are listed, unless a list is given; where they are more than
-        a list may have, any that the browser finds may answer, and has to be the account's."""
+        """Returns the options for the page, and the session's id, which only this visitor may have. `how` is as in
+        `Server.authenticate_begin`. If the account is known, its passkeys are listed, unless a list is given. If there are more than a list
+        may have, any passkey that the browser finds may answer; it has to be the account's."""
         handle = None if user is None else limits.check_user(user)
 
         def begin(rows: Rows) -> Tuple[Dict[str, Any], str]:
@@ -158,11 +162,11 @@ class SqlServer:
         return self.within(begin)
 
     async def authenticate_begin_async(self, *, user: Optional[bytes] = None, **how: Any) -> Tuple[Dict[str, Any], str]:
-        """The same, awaited as `register_begin_async`."""
+        """The same, awaited like `register_begin_async`."""
         return await in_thread(self.authenticate_begin, user=user, **how)
 
     def authenticate_complete(self, session: Optional[str], response: Mapping[str, Any]) -> SignedIn:
-        """Who signed in, of an AuthenticationResponseJSON; the counter is stored, and the session closed."""
+        """Returns who signed in with an AuthenticationResponseJSON, stores the counter, and closes the session."""
         number = limits.check_session(session)
 
         def complete(rows: Rows) -> SignedIn:
@@ -175,51 +179,51 @@ class SqlServer:
         return self.within(complete)
 
     async def authenticate_complete_async(self, session: Optional[str], response: Mapping[str, Any]) -> SignedIn:
-        """The same, awaited as `register_complete_async`."""
+        """The same, awaited like `register_complete_async`."""
         return await in_thread(self.authenticate_complete, session, response)
 
     # ---- visitors who are signed in
 
     def keep_sign_in(self, user: bytes, credential: Optional[bytes] = None, *, lifetime: int = SIGNED_IN) -> str:
-        """Keeps that a visitor is signed in as this user, by this passkey or, where it is None, by other means: the number that a cookie
-        has, 32 hex digits. It ends after `lifetime` seconds, by `abandon`, where the passkey is retired or deleted, and with the account."""
+        """Stores that a visitor is signed in as this user, with this passkey or, if it is None, by other means. Returns the number for a
+        cookie, 32 hex digits. The sign-in ends after `lifetime` seconds, by `abandon`, when the passkey is retired or deleted, and with the
+        account."""
         identity, handle = None if credential is None else limits.check_id(credential, "credential"), limits.check_user(user)
         seconds = limits.check_lifetime(lifetime)
         return self.within(lambda rows: rows.keep_sign_in(handle, identity, seconds))
 
     def signed_in(self, number: Optional[str], *, fresh: Optional[int] = None) -> Optional[KeptSignIn]:
-        """Who is signed in by this number, or None; with `fresh`, if that was at most this many seconds ago."""
+        """The visitor who is signed in by this number, or None; with `fresh`, only if that was at most this many seconds ago."""
         most = None if fresh is None else limits.check_lifetime(fresh, "fresh")
         return self.within(lambda rows: rows.signed_in(number, most), writes=False)
 
     # ---- sessions and credentials
 
     def rows(self, user: Optional[bytes] = None) -> List[KeptCredential]:
-        """The credentials of a user, or all, retired ones too, in order of registration. A row that is damaged is left out, and
-        logged."""
+        """The credentials of a user, or all, including retired ones, in order of registration. A damaged row is left out and logged."""
         handle = None if user is None else limits.check_user(user)
         return self.within(lambda rows: rows.credentials(handle), writes=False)
 
     def add(self, credential: Credential, *, backed_up: Optional[bool] = None, aaguid: Optional[bytes] = None) -> None:
-        """Stores a credential of another library (docs/COMING.md). Raises `Refused`, G15, where its id is registered, and `BadInput` where
-        it is none that a row may have."""
+        """Stores a credential of another library (docs/COMING.md). Raises `Refused`, G15, if its id is registered, and `BadInput` if it is
+        not one that a row may have."""
         told = None if aaguid is None else to_text(aaguid)
         KeptCredential.from_json({**Credential.to_json(credential), "backed_up": backed_up, "aaguid": told, "created_at": None, "used_at": None})
         self.within(lambda rows: rows.add(credential, backed_up, aaguid))
 
     def retire(self, credential: bytes, *, user: Optional[bytes] = None) -> bool:
-        """A credential signs in no more, and its id stays taken; whether it did until now. The user's open registrations end. With `user`
-        one of another account is left as it is."""
+        """Retires a credential: it can't sign in any more, and its id stays taken. Returns whether it could until now. The user's open
+        registrations end. With `user`, a credential of another account is left as it is."""
         return self._changed(Rows.retire, credential, user)
 
     def retire_all(self, user: bytes) -> int:
-        """A user's credentials sign in no more, and his open registrations end; how many did until now."""
+        """Retires all of a user's credentials, and ends the user's open registrations. Returns how many could sign in until now."""
         handle = limits.check_user(user)
         return self.within(lambda rows: rows.retire_all(handle))
 
     def delete(self, credential: bytes, *, user: Optional[bytes] = None) -> bool:
-        """A credential is forgotten, and its id may be registered again, by anybody; whether it was there. The user's open registrations
-        end. `user` is as in `retire`."""
+        """Forgets a credential; anybody may register its id again. Returns whether it was there. The user's open registrations end. `user`
+        is as in `retire`."""
         return self._changed(Rows.delete, credential, user)
 
     def _changed(self, change: Callable[[Rows, bytes, Optional[bytes]], bool], credential: bytes, user: Optional[bytes]) -> bool:
@@ -227,7 +231,8 @@ class SqlServer:
         return self.within(lambda rows: change(rows, identity, handle))
 
     def erase(self, user: bytes) -> int:
-        """A user's credentials are forgotten; how many they were. The user's open sessions end, and who is signed in is so no more."""
+        """Forgets a user's credentials. Returns how many there were. The user's open sessions end, and visitors signed in as the user are
+        signed out."""
         handle = limits.check_user(user)
 
         def erase(rows: Rows) -> int:
@@ -238,6 +243,6 @@ class SqlServer:
         return self.within(erase)
 
     def abandon(self, session: Optional[str]) -> bool:
-        """A session ends, or what `keep_sign_in` kept; whether it was there."""
+        """Ends a session, or a sign-in that `keep_sign_in` stored. Returns whether it was there."""
         number = limits.check_session(session)
         return self.within(lambda rows: rows.end(number))

@@ -1,4 +1,4 @@
-"""Connections of a site's database, by DB-API (PEP 249): how one is had for a call, and given back."""
+"""Connections to a site's database, through DB-API (PEP 249): how a call gets one and gives it back."""
 from __future__ import annotations
 
 import inspect
@@ -10,31 +10,31 @@ from typing import Any, Callable, Iterator, Optional, Sequence, Tuple
 from .answers import refuse
 
 RETRIED = ("40001", "40P01")
-"""The SQLSTATE of a transaction that may be made again: serialization failure and deadlock (PostgreSQL, appendix A)."""
+"""The SQLSTATE values after which a transaction may be repeated: serialization failure and deadlock (PostgreSQL, appendix A)."""
 _WANTED = "a pool, an engine, or a function that opens a connection, as lambda: sqlite3.connect(file)"
 _log = logging.getLogger("garvoeng")
 
 
 def can_connect(source: Any) -> bool:
-    """Whether connections can be had of it."""
+    """Whether the value can provide connections."""
     return callable(source) or any(callable(getattr(source, name, None)) for name in ("getconn", "raw_connection", "connection"))
 
 
 def _pool_of(source: Any) -> Any:
-    """What lends connections by `getconn` and takes them back by `putconn`, as psycopg_pool and psycopg2.pool do; None where there is none.
-    `pool.getconn` stands for the pool."""
+    """The pool that lends connections by `getconn` and takes them back by `putconn`, as in psycopg_pool and psycopg2.pool; None if there is
+    none. `pool.getconn` stands for the pool."""
     owner = getattr(source, "__self__", None) if getattr(source, "__name__", None) == "getconn" else source
     return owner if all(callable(getattr(owner, name, None)) for name in ("getconn", "putconn")) else None
 
 
 def _opened(source: Any) -> Any:
-    """What an engine of SQLAlchemy gives by `raw_connection`, a pool by `connection`, and a function by itself."""
+    """What `raw_connection` of an engine of SQLAlchemy returns, `connection` of a pool, or a function itself."""
     opens = next((getattr(source, name) for name in ("raw_connection", "connection") if callable(getattr(source, name, None))), source)
     return opens()
 
 
 def _check(connection: Any) -> Any:
-    """A connection whose calls are not awaited."""
+    """Refuses a connection with awaited calls."""
     if inspect.isawaitable(connection) or inspect.iscoroutinefunction(getattr(connection, "commit", None)):
         refuse("connect", connection, "a connection whose calls are not awaited, as psycopg.connect opens", awaited_in="")
     if not all(callable(getattr(connection, name, None)) for name in ("cursor", "commit", "rollback")):
@@ -43,7 +43,7 @@ def _check(connection: Any) -> Any:
 
 
 def _given_back(give: Callable[[Any], Any], connection: Any) -> None:
-    """What is committed stays so, whatever the way back says."""
+    """What is committed stays committed, even if this fails."""
     try:
         give(connection)
     except Exception as error:
@@ -52,7 +52,7 @@ def _given_back(give: Callable[[Any], Any], connection: Any) -> None:
 
 @contextmanager
 def _within(opened: Any) -> Iterator[Any]:
-    """The connection of a context manager. One that passes over exceptions does not pass over those of a call."""
+    """The connection of a context manager. Even if the manager suppresses exceptions, those of a call are raised."""
     raised: Optional[BaseException] = None
     with opened as connection:
         try:
@@ -66,7 +66,7 @@ def _within(opened: Any) -> Iterator[Any]:
 
 @contextmanager
 def borrowed(source: Any) -> Iterator[Any]:
-    """A connection, which is given back, or closed, in the end."""
+    """A connection, which is given back or closed at the end."""
     pool = _pool_of(source)
     opened = pool.getconn() if pool is not None else _opened(source)
     if not callable(getattr(opened, "cursor", None)) and callable(getattr(opened, "__enter__", None)):
@@ -81,17 +81,17 @@ def borrowed(source: Any) -> Iterator[Any]:
 
 
 def _tuples(_: Any) -> Callable[[Sequence[Any]], Tuple[Any, ...]]:
-    """Rows as tuples, by psycopg's `row_factory`."""
+    """Rows as tuples, for psycopg's `row_factory`."""
     return tuple
 
 
 def plain(row: Any) -> Optional[Tuple[Any, ...]]:
-    """A row as a tuple, whatever the connection makes of its rows."""
+    """A row as a tuple, whatever type of rows the connection makes."""
     return None if row is None else tuple(row.values()) if isinstance(row, Mapping) else tuple(row)
 
 
 def _cursor(connection: Any, on_sqlite: bool) -> Any:
-    """A cursor whose rows are tuples, if it can be asked for them: those of sqlite3 and of psycopg."""
+    """A cursor whose rows are tuples, if it can be asked for them, as with sqlite3 and psycopg."""
     if on_sqlite:
         cursor = connection.cursor()
         cursor.row_factory = None
@@ -126,7 +126,7 @@ class Cursor:
 
 
 def is_sqlite(connection: Any) -> bool:
-    """Whether SQLite answers, to which a text does not equal a number; PostgreSQL takes the literal as a number."""
+    """Whether the database is SQLite, to which a text does not equal a number; PostgreSQL takes the literal as a number."""
     cursor = _cursor(connection, False)
     cursor.execute("select '1' = 1 as is_postgres")
     said = plain(cursor.fetchone())
@@ -137,8 +137,8 @@ def is_sqlite(connection: Any) -> bool:
 
 @contextmanager
 def transaction(connection: Any, on_sqlite: bool, writes: bool) -> Iterator[Cursor]:
-    """A transaction, whatever the connection does by itself: it commits at the end, and rolls back at an exception. A connection that
-    can't be rolled back is closed, so that no pool lends it again."""
+    """A transaction, whatever the connection does by itself: it commits at the end, and rolls back on an exception. A connection that can't
+    be rolled back is closed, so that no pool lends it again."""
     cursor, kept = Cursor(connection, on_sqlite), getattr(connection, "isolation_level", None)
     by_itself = not on_sqlite and bool(getattr(connection, "autocommit", False))
 
@@ -171,6 +171,6 @@ def transaction(connection: Any, on_sqlite: bool, writes: bool) -> Iterator[Curs
 
 
 def is_retried(error: BaseException) -> bool:
-    """Whether the transaction may be made again: another one was in its way."""
+    """Whether the transaction may be repeated, because another one was in its way."""
     found = [error, getattr(error, "orig", None), error.__cause__]
     return any(getattr(one, name, None) in RETRIED for one in found for name in ("sqlstate", "pgcode"))

@@ -1,4 +1,4 @@
-"""The rows of `SqlServer` within one transaction: the statements, and what each row has to be."""
+"""The rows of `SqlServer` within one transaction: the statements, and the checks of each row."""
 from __future__ import annotations
 
 import json
@@ -23,14 +23,14 @@ MIGRATIONS: Tuple[Tuple[str, ...], ...] = ((
     "create table garvoeng_session (id text primary key, data text not null, expires_at bigint not null)",
     "create index garvoeng_session_by_expiry on garvoeng_session (expires_at)",
 ),)
-"""What makes the tables, and later changes them: the statements of each version, from 1 on."""
+"""The statements that make the tables and later change them, for each version from 1 on."""
 
 _COLUMNS = "id, user_handle, public_key, sign_count, backup_eligible, retired, transports, backed_up, aaguid, created_at, used_at"
 _SESSION = re.compile(r"[0-9a-f]{32}")
 _KINDS = {RegistrationSession: "algorithms", SignInSession: "allow"}
-"""The member that only a session of this kind has."""
+"""The member that only sessions of this kind have."""
 _SIGNED_IN = "signed_in"
-"""That of a sign-in that is kept."""
+"""The member of a kept sign-in."""
 _NAMES, _SECRET, _NEVER = "names", "secret", 2**53
 _log = logging.getLogger("garvoeng")
 
@@ -40,13 +40,13 @@ class KeptSignIn:
     """A visitor who is signed in."""
 
     number: str
-    """What only this visitor has."""
+    """A number only this visitor has."""
     user: bytes
     """The user handle."""
     credential: Optional[bytes]
-    """The id of the passkey that signed in; None where it was by other means."""
+    """The id of the passkey that signed in; None if it was by other means."""
     at: int
-    """When: seconds since 1970."""
+    """When, in seconds since 1970."""
 
 
 def _flag(value: Any) -> Optional[bool]:
@@ -75,7 +75,7 @@ def _read(row: Sequence[Any]) -> KeptCredential:
 
 
 def _row(row: Sequence[Any]) -> KeptCredential:
-    """A credential's row. Raises `RowDamaged`."""
+    """The row of a credential. Raises `RowDamaged`."""
     try:
         return _read(row)
     except (BadInput, TypeError) as error:
@@ -85,7 +85,7 @@ def _row(row: Sequence[Any]) -> KeptCredential:
 
 
 def _members(data: Any) -> Dict[str, Any]:
-    """The members of a session's row; none where it is damaged."""
+    """The members of a session's row; empty if it is damaged."""
     try:
         found = json.loads(data)
     except (TypeError, ValueError, RecursionError):
@@ -94,7 +94,7 @@ def _members(data: Any) -> Dict[str, Any]:
 
 
 def _names_of(user: bytes) -> str:
-    """The id of the row of what a user calls his passkeys."""
+    """The id of the row with a user's names for passkeys."""
     return f"{_NAMES} {to_text(user)}"
 
 
@@ -103,7 +103,7 @@ def _check_session(number: Any) -> bool:
 
 
 class Rows:
-    """The rows within one transaction, by its cursor. `mark` is what stands for a value in the driver's statements."""
+    """The rows within one transaction, through its cursor. `mark` is the driver's placeholder for a value in a statement."""
 
     def __init__(self, cursor: Any, is_sqlite: bool, mark: str) -> None:
         self.is_sqlite = is_sqlite
@@ -111,7 +111,7 @@ class Rows:
         self._mark = mark
 
     def run(self, statement: str, *values: Any) -> Any:
-        """The cursor after a statement, whose values stand as `?`."""
+        """Runs a statement, with `?` in place of each value. Returns the cursor."""
         self._cursor.execute(statement.replace("?", self._mark), values)
         return self._cursor
 
@@ -135,34 +135,34 @@ class Rows:
             self.run("update garvoeng_version set version = ?", len(MIGRATIONS))
 
     def lock(self, user: bytes) -> None:
-        """Until the transaction ends nobody else changes what this account has. SQLite has one lock for all."""
+        """Until the transaction ends, nobody else can change this account's rows. SQLite has one lock for all."""
         if not self.is_sqlite:
             self.run("select pg_advisory_xact_lock(hashtext(cast(? as text)))", f"garvoeng {to_text(user)}")
 
     # ---- sessions
 
     def _stored(self, data: Dict[str, Any], lifetime: int) -> str:
-        """Stores a session, whose id is 32 random hexadecimal digits; those that have ended go."""
+        """Stores a session under an id of 32 random hexadecimal digits, and deletes those that have ended."""
         now, number = int(time.time()), secrets.token_hex(16)
         self.run("delete from garvoeng_session where expires_at <= ?", now)
         self.run("insert into garvoeng_session values (?, ?, ?)", number, json.dumps(data), now + lifetime)
         return number
 
     def _found(self, number: Any) -> Optional[Dict[str, Any]]:
-        """The members of the session that is open, or None."""
+        """The members of the open session, or None."""
         if not _check_session(number):
             return None
         found = self.run("select data from garvoeng_session where id = ? and expires_at > ?", number, int(time.time())).fetchone()
         return None if found is None else _members(found[0])
 
     def begin(self, session: Union[RegistrationSession, SignInSession], lifetime: int, sign_in: Optional[str] = None) -> str:
-        """Stores a session, and which sign-in it is bound to; its id."""
+        """Stores a session and the sign-in that it is bound to. Returns its id."""
         bound = {} if sign_in is None else {"sign_in": sign_in}
         return self._stored({**session.to_json(), **bound}, lifetime)
 
     def take(self, number: Any, kind: Any, sign_in: Optional[str] = None) -> Any:
-        """The open session of this id and this kind that is bound to this sign-in, if to any, or None. Its row is deleted, if the
-        transaction commits: so it answers once. Raises `SessionDamaged`."""
+        """The open session of this id and kind that is bound to this sign-in, if to any, or None. Its row is deleted if the transaction
+        commits, so it answers once. Raises `SessionDamaged`."""
         found = self._found(number)
         if found is None or any(member in found for other, member in _KINDS.items() if other is not kind) or _SIGNED_IN in found:
             return None
@@ -179,11 +179,11 @@ class Rows:
         return session if self.end(number) else None
 
     def end(self, number: Any) -> bool:
-        """Deletes a session; whether it was there."""
+        """Deletes a session. Returns whether it was there."""
         return _check_session(number) and bool(self.run("delete from garvoeng_session where id = ?", number).rowcount == 1)
 
     def end_of(self, user: bytes, members: Iterable[str]) -> None:
-        """Deletes a user's sessions of the kinds that have these members."""
+        """Deletes a user's sessions of the kinds with these members."""
         handle, place = to_text(user), "instr" if self.is_sqlite else "strpos"
         rows = self.run(f"select id, data from garvoeng_session where {place}(data, cast(? as text)) > 0", f'"{handle}"').fetchall()
         for number, data in rows:
@@ -194,13 +194,13 @@ class Rows:
     # ---- visitors who are signed in
 
     def keep_sign_in(self, user: bytes, credential: Optional[bytes], lifetime: int) -> str:
-        """Stores that a visitor is signed in; the number, which only this visitor may have."""
+        """Stores that a visitor is signed in. Returns the number, which only this visitor may have."""
         return self._stored({_SIGNED_IN: int(time.time()), "user": to_text(user),
                              "credential": None if credential is None else to_text(credential)}, lifetime)
 
     def signed_in(self, number: Any, fresh: Optional[int] = None, *, looks_up: bool = True) -> Optional[KeptSignIn]:
-        """Who is signed in by this number, for `fresh` seconds at most; None where that ended, or its passkey is retired or deleted, which
-        is looked up unless another server has it."""
+        """The visitor who is signed in by this number, within the last `fresh` seconds; None if the sign-in ended, or its passkey is
+        retired or deleted. The passkey is looked up unless another server has it."""
         found = self._found(number)
         if found is None or _SIGNED_IN not in found:
             return None
@@ -218,7 +218,7 @@ class Rows:
         return kept if is_open else None
 
     def is_signed_in(self, user: Optional[bytes], sign_in: Optional[str]) -> bool:
-        """Whether this user is signed in by this number; without one there is nothing to ask."""
+        """Whether this user is signed in by this number; true if there is none to check."""
         if sign_in is None:
             return True
         kept = self.signed_in(sign_in)
@@ -227,20 +227,20 @@ class Rows:
     # ---- what is kept beside sessions, in rows whose ids no visitor has a number for
 
     def secret(self) -> bytes:
-        """32 random bytes, which are made where there are none."""
+        """32 random bytes, which are made if there are none."""
         self.run("insert into garvoeng_session values (?, ?, ?) on conflict (id) do nothing", _SECRET,
                  json.dumps({_SECRET: to_text(secrets.token_bytes(32))}), _NEVER)
         found = self.run("select data from garvoeng_session where id = ?", _SECRET).fetchone()
         return from_text(_members(found[0]).get(_SECRET), _SECRET)
 
     def names(self, user: bytes) -> Dict[bytes, str]:
-        """What a user calls his passkeys, by their ids."""
+        """A user's names for passkeys, by their ids."""
         found = self.run("select data from garvoeng_session where id = ?", _names_of(user)).fetchone()
         named = None if found is None else _members(found[0]).get(_NAMES)
         return {from_text(id, "id"): str(name) for id, name in named.items()} if isinstance(named, dict) else {}
 
     def rename(self, user: bytes, id: bytes, name: str) -> None:
-        """Calls a passkey so. An empty name is none."""
+        """Names a passkey. An empty name removes the name."""
         self.lock(user)
         named = {to_text(one): text for one, text in self.names(user).items() if one != id}
         if name:
@@ -257,11 +257,11 @@ class Rows:
         return None if row is None else _row(row)
 
     def has(self, id: bytes) -> bool:
-        """Whether a credential has the id, to anyone, retired or not."""
+        """Whether a credential has the id, of any user, retired or not."""
         return self.run("select 1 from garvoeng_credential where id = ?", id).fetchone() is not None
 
     def credentials(self, user: Optional[bytes]) -> List[KeptCredential]:
-        """Those of a user, or all, but for rows that are damaged."""
+        """The credentials of a user, or all, except for damaged rows."""
         which, values = ("", ()) if user is None else (" where user_handle = ?", (user,))
         rows = self.run(f"select {_COLUMNS} from garvoeng_credential{which} order by created_at, id", *values).fetchall()
         listed = []
@@ -275,7 +275,7 @@ class Rows:
         return [row for row in self.credentials(user) if not row.retired]
 
     def _owner(self, id: bytes, user: Optional[bytes]) -> Optional[bytes]:
-        """Whose a credential is, if it is there, and of this user if one is named. His account is locked then."""
+        """The user of a credential, or none if it is missing or not of the named user. The user's account is then locked."""
         row = self.run("select user_handle from garvoeng_credential where id = ?", id).fetchone()
         owner = None if row is None else bytes(row[0]) if isinstance(row[0], (bytes, memoryview)) else b""
         if owner is None or user not in (None, owner):
@@ -284,7 +284,7 @@ class Rows:
         return owner
 
     def retire(self, id: bytes, user: Optional[bytes]) -> bool:
-        """The user's open registrations end with it."""
+        """Also ends the user's open registrations."""
         owner = self._owner(id, user)
         if owner is None or self.run("update garvoeng_credential set retired = 1 where id = ? and retired = 0", id).rowcount != 1:
             return False
@@ -292,13 +292,13 @@ class Rows:
         return True
 
     def retire_all(self, user: bytes) -> int:
-        """How many did sign in until now. The user's open registrations end."""
+        """Returns how many could sign in until now. Ends the user's open registrations."""
         self.lock(user)
         self.end_of(user, [_KINDS[RegistrationSession]])
         return int(self.run("update garvoeng_credential set retired = 1 where user_handle = ? and retired = 0", user).rowcount)
 
     def delete(self, id: bytes, user: Optional[bytes]) -> bool:
-        """The user's open registrations end with it."""
+        """Also ends the user's open registrations."""
         owner = self._owner(id, user)
         if owner is None or self.run("delete from garvoeng_credential where id = ?", id).rowcount != 1:
             return False
@@ -308,7 +308,7 @@ class Rows:
         return True
 
     def erase(self, user: bytes) -> int:
-        """How many credentials it had. All of the user's sessions end, and each visitor who is signed in is so no more."""
+        """Returns how many credentials there were. Ends all of the user's sessions, and signs out each visitor who is signed in."""
         self.lock(user)
         self.end_of(user, [*_KINDS.values(), _SIGNED_IN])
         self.run("delete from garvoeng_session where id = ?", _names_of(user))
@@ -316,8 +316,8 @@ class Rows:
 
     def add(self, credential: Credential, backed_up: Optional[bool], aaguid: Optional[bytes], created_at: Optional[int] = None,
             used_at: Optional[int] = None) -> None:
-        """Stores a credential, which was made now unless it is said when. Raises `Refused`, G15, where its id is registered, to anyone,
-        retired or not."""
+        """Stores a credential, dated now unless a time is given. Raises `Refused`, G15, if its id is registered, to any user, retired or
+        not."""
         added = self.run(
             "insert into garvoeng_credential values (?, ?, ?, ?, ?, ?, ?, ?, ?, ?, ?) on conflict (id) do nothing",
             credential.id, credential.user, credential.cose_key, credential.sign_count, _number(credential.eligible),
@@ -327,7 +327,7 @@ class Rows:
             raise Refused(True, 15, "the credential was registered meanwhile")
 
     def count(self, signed_in: SignedIn) -> None:
-        """Writes what a sign-in said. Raises `Refused`, W15, where the stored counter is not that for which the verdict was given."""
+        """Stores the results of a sign-in. Raises `Refused`, W15, if the stored counter is not the one that the verdict was given for."""
         new, old = signed_in.credential, signed_in.before
         assert old is not None
         written = self.run(

@@ -1,10 +1,10 @@
-"""Passkeys for a site in Starlette or FastAPI: what is mounted, with a page, and what it asks (`garvoeng.web`).
+"""Passkeys for a site in Starlette or FastAPI: an application to mount, with a page and the requests that the page makes (`garvoeng.web`).
 
     passkeys = Passkeys(server)
     app.mount("/passkeys", passkeys)
 
-`await passkeys.signed_in(request)` is the visitor's user handle then, or None; it is a dependency of FastAPI's too:
-`user: bytes | None = Depends(passkeys.signed_in)`.
+`await passkeys.signed_in(request)` then returns the visitor's user handle, or None. It can also be a dependency in FastAPI: `user: bytes |
+None = Depends(passkeys.signed_in)`.
 """
 from __future__ import annotations
 
@@ -18,7 +18,7 @@ from . import web
 from .errors import BadInput
 
 _SECONDS = 30
-"""How long a body may take."""
+"""How many seconds a body may take."""
 
 
 async def _body(request: Request, most: int) -> bytes:
@@ -31,8 +31,8 @@ async def _body(request: Request, most: int) -> bytes:
 
 
 class Passkeys:
-    """The acts of `garvoeng.web` as an application of ASGI. `server`, `accounts` and `how` are as in `garvoeng.web.Passkeys`: the functions
-    of `Accounts` take Starlette's request, and may be `async`. The visitor's address is that which the web server tells (`--proxy-headers`
+    """The acts of `garvoeng.web` as an ASGI application. `server`, `accounts` and `how` are as in `garvoeng.web.Passkeys`; the functions of
+    `Accounts` get Starlette's request and may be `async`. The visitor's address is the one that the web server reports (`--proxy-headers`
     of uvicorn)."""
 
     def __init__(self, server: Any, accounts: Any = None, **how: Any) -> None:
@@ -63,14 +63,14 @@ class Passkeys:
         await response(scope, receive, send)
 
     async def visitor(self, request: HTTPConnection) -> Optional[web.Visitor]:
-        """Who is signed in, or None. Ask `visitor.is_fresh(300)` before a sensitive act."""
+        """The visitor who is signed in, or None. Check `visitor.is_fresh(300)` before a sensitive act."""
         return await self.core.visitor_async(self._asked(request))
 
     async def signed_in(self, request: HTTPConnection) -> Optional[bytes]:
-        """The user handle of the visitor, or None."""
+        """The visitor's user handle, or None."""
         found = await self.visitor(request)
         return None if found is None else found.user
 
     async def end(self, request: HTTPConnection) -> None:
-        """Ends the visitor's sign-in: for a sign-out of the site's own."""
+        """Ends the visitor's sign-in. Call it from the site's own sign-out."""
         await self.core.end_async(self._asked(request))

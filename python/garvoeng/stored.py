@@ -1,5 +1,5 @@
-"""A relying party whose credentials the proved program `site_program` keeps in a SQLite file. The program runs beside this
-process, and answers lines of JSON. A session is a text that it has sealed, which the visitor keeps."""
+"""A relying party whose credentials are kept in a SQLite file by the proved program `site_program`, which runs beside this process and
+answers lines of JSON. A session is a text that the program has sealed and that the visitor keeps."""
 from __future__ import annotations
 
 import itertools
@@ -27,15 +27,14 @@ from .server import verify_of
 
 _log = logging.getLogger("garvoeng")
 _ELIGIBLE = 0x08
-"""The flag BE: a sign-in whose flag is another than the row's is refused by W16."""
+"""The flag BE: a sign-in whose flag differs from the row's is refused with W16."""
 _ENDING = 5.0
-"""How many seconds may pass until what a program that has ended told is read."""
+"""How many seconds to wait for the last messages of a program that has ended."""
 
 
 class StoreFailed(Exception):
-    """The program could not be started, ended before it answered, or its disk or memory failed: what was asked is done or
-    is not. The text has the cause that the program told. The next call starts the program again, and it goes on with the
-    site that the file holds."""
+    """The program could not be started, ended before it answered, or its disk or memory failed: the operation may or may not be done. The
+    text has the cause that the program reported. The next call starts the program again, and it goes on with the site in the file."""
 
 
 def _extensions(accepted: Mapping[str, Any]) -> bytes:
@@ -59,14 +58,14 @@ def _named(credential: bytes) -> str:
 
 
 def _handed_on(raw_id: bytes, **parts: Optional[bytes]) -> Dict[str, Any]:
-    """A response of these members alone."""
+    """A response with these members alone."""
     identity = forms.to_text(raw_id)
     return {"id": identity, "rawId": identity, "type": "public-key",
             "response": {name: forms.to_text(value) for name, value in parts.items() if value is not None}}
 
 
 def _answer(line: bytes, number: int) -> Dict[str, Any]:
-    """The answer to the line of this number. One to a line that the program could not read has no number."""
+    """The answer to the line with this number. The answer to a line that the program could not read has no number."""
     answer = json.loads(line)
     if not line.endswith(b"\n") or not isinstance(answer, dict) or answer.pop("id", 0) not in (number, None):
         raise ValueError
@@ -74,7 +73,7 @@ def _answer(line: bytes, number: int) -> Dict[str, Any]:
 
 
 class _Process:
-    """A run of the program. Each line has a number, and answers come in the order of the lines."""
+    """A run of the program. Each line has a number, and the answers come in the order of the lines."""
 
     def __init__(self, words: Sequence[str], shared: bool) -> None:
         self.process: Union["subprocess.Popen[bytes]", Connection]
@@ -96,7 +95,7 @@ class _Process:
         self.reading.start()
 
     def _read(self) -> None:
-        """Hands each answer to the one that asked, up to the first that is none."""
+        """Gives each answer to the call that asked, up to the first that is not an answer."""
         assert self.process.stdout is not None
         try:
             for line in self.process.stdout:
@@ -133,8 +132,8 @@ class _Process:
         return StoreFailed(": ".join([what, *list(self.said)[-1:]]))
 
     def _write(self, number: int, line: bytes) -> None:
-        """Counts a line and writes it. One that is not written whole ends the program, so that none is ever answered in
-        another's place."""
+        """Counts a line and writes it. If it can't be written whole, the program is ended, so that no line is answered in another's
+        place."""
         assert self.process.stdin is not None
         try:
             self.asked.append(number)
@@ -171,7 +170,7 @@ class _Process:
         return not self.is_killed and self.process.poll() is None
 
     def forget(self) -> None:
-        """In a child of the process that has it: lets go of what is the parent's."""
+        """In a child of the process that has it: drops what belongs to the parent."""
         if isinstance(self.process, Connection):
             self.process.forget()
             return
@@ -182,7 +181,7 @@ class _Process:
             getattr(pipe, "raw").close()
 
     def end(self, timeout: float) -> int:
-        """Ends the input, by which the program closes its file; its status. One that has not ended in time is killed."""
+        """Ends the input, which makes the program close its file. Returns its status. A program that has not ended in time is killed."""
         assert self.process.stdin is not None
         if self.writing.acquire(timeout=timeout):
             try:
@@ -199,7 +198,7 @@ class _Process:
         return -1 if status is None else status
 
     def _waited(self, timeout: float) -> Optional[int]:
-        """The status, or None where it did not end in time."""
+        """The status, or None if the program did not end in time."""
         try:
             return self.process.wait(timeout)
         except subprocess.TimeoutExpired:
@@ -210,7 +209,7 @@ _servers: "WeakSet[StoredServer]" = WeakSet()
 
 
 def _forked() -> None:
-    """In a child: each server connects anew, or starts its own program."""
+    """In a child process: each server connects anew, or starts its own program."""
     for server in list(_servers):
         server._forked()
 
@@ -220,18 +219,17 @@ if hasattr(os, "register_at_fork"):
 
 
 class StoredServer:
-    """A relying party over the file of the proved program, which one process may have at a time.
+    """A relying party over the file of the proved program, which one process may use at a time.
 
-    `program` is the path of the program, `file` that of the SQLite file, which is made where there is none unless
-    `existing`. Keep `known` elsewhere: with it as `at_least`, any copy of the file that lacks the last change is refused.
-    With `wary` each commit flushes twice, for disks that may leave any bytes of a write that is cut off. Any thread may
-    call. If the program has ended, the next call starts it again; one that does not answer in `timeout` seconds is
-    ended. A session expires `lifetime` seconds after it began, also if the program ended meanwhile. `max_credentials`
-    is the most credentials; both are from 1 to 1,000,000. With `log` the program logs each refusal, and with `log="all"` each acceptance
-    and each error too, to the logger `garvoeng` of `logging`. With `shared`, which is for Linux, all processes of this user that name
-    the same file and the same parameters share one program, by a Unix socket that nobody else can open; it ends two seconds
-    after the last of them. `verify(algorithm, x, y, message, signature)` tells whether a signature is valid; by default
-    `cryptography` does.
+    `program` is the path of the program, `file` the path of the SQLite file, which is made if it is missing, unless `existing` is true.
+    Keep `known` elsewhere: if you pass it as `at_least`, any copy of the file that lacks the last change is refused. With `wary` each
+    commit flushes twice, for disks that may leave any bytes of a write that is cut off. Any thread may call. If the program has ended, the
+    next call starts it again; a program that does not answer in `timeout` seconds is ended. A session expires `lifetime` seconds after it
+    began, also if the program ended meanwhile. `max_credentials` is the greatest number of credentials; both are from 1 to 1,000,000. With
+    `log` the program logs each refusal, and with `log="all"` also each acceptance and each error, to the logger `garvoeng` of `logging`.
+    With `shared`, which is for Linux, all processes of this user that name the same file and the same parameters share one program, through
+    a Unix socket that nobody else can open; it ends two seconds after the last of them. `verify(algorithm, x, y, message, signature)`
+    returns whether a signature is valid; by default `cryptography` checks it.
     """
 
     def __init__(self, program: str, file: str, rp_id: str, origins: Sequence[str], rp_name: Optional[str] = None, *,
@@ -304,11 +302,12 @@ class StoredServer:
 
     @property
     def known(self) -> int:
-        """The number for `at_least`, which refuses copies of the file that lack the last change that this process knows of. `status` has it too."""
+        """The number for `at_least`, which refuses copies of the file that lack the last change that this process knows of. `status` also
+        has it."""
         return self._known
 
     def close(self) -> None:
-        """Ends the program, which closes its file. A call that comes later starts it again."""
+        """Ends the program, which closes its file. A later call starts it again."""
         with self._starting:
             process, self._process = self._process, None
         if process is not None:
@@ -330,8 +329,8 @@ class StoredServer:
         return [forms.to_text(one) for one in options.ids_of(ids, what, self._most_listed)]
 
     def _finish(self, act: str, session: Optional[str], response: Dict[str, Any], **more: Any) -> Tuple[Dict[str, Any], Dict[str, Any]]:
-        """What was accepted, and what was verified for it. The program gives the signature to verify. It gets that back if it is
-        valid, and else False, so that its log has the refusal."""
+        """What was accepted, and what was verified for it. The program gives the signature to verify. It gets the signature back if it is
+        valid, and otherwise False, so that its log has the refusal."""
         text, asked = forms.sealed(session), {}
         answer = self._ask(act, session=text, response=response, **more)
         if "verify" in answer:
@@ -353,10 +352,10 @@ class StoredServer:
                        algorithms: Sequence[int] = (ES256, EDDSA, RS256), authenticator_attachment: Optional[str] = None,
                        attestation: str = "none", conditional: bool = False, timeout: Optional[int] = None, hints: Sequence[str] = (),
                        extensions: Optional[Mapping[str, Any]] = None) -> Tuple[Dict[str, Any], str]:
-        """PublicKeyCredentialCreationOptionsJSON for the page, and the session, a text that only this visitor may have.
+        """Returns PublicKeyCredentialCreationOptionsJSON for the page, and the session, a text that only this visitor may have.
 
-        The parameters are as in `Server.register_begin`; `exclude` has 64 at most, in the profile `strict` 8, and is the account's
-        own, if not given.
+        The parameters are as in `Server.register_begin`; `exclude` has 64 at most, in the profile `strict` 8, and by default has the
+        account's own.
         """
         handle = limits.check_user(user)
         named = options.user_entity(handle, user_name, display_name)
@@ -371,14 +370,14 @@ class StoredServer:
 
     async def register_begin_async(self, user: bytes, user_name: str, display_name: Optional[str] = None,
                                    **how: Any) -> Tuple[Dict[str, Any], str]:
-        """The same, awaited: a thread of the loop waits for the program's answer. Where the wait is cancelled, what was asked is done or
-        is not."""
+        """The same, awaited: a thread of the loop waits for the program's answer. If the wait is cancelled, the operation may or may not be
+        done."""
         return await in_thread(self.register_begin, user, user_name, display_name, **how)
 
     def register_complete(self, session: Optional[str], response: Mapping[str, Any]) -> Registered:
-        """What a RegistrationResponseJSON registers: the credential, which is in the file, and what is known of it. In the profile
-        `level3`, `format` is `none` where no attestation was asked for. Raises `Refused` with the first step that is not passed, of which
-        the first is that the session is open, `BadInput` where the response is not in the form of JSON."""
+        """Returns the registration of a RegistrationResponseJSON: the credential, which is in the file, and what is known of it. In the
+        profile `level3`, `format` is `none` if no attestation was asked for. Raises `Refused` with the first step that the response does
+        not pass (the first step of all is that the session is open), and `BadInput` if it is not in the form of JSON."""
         text = limits.check_session(session)
         raw_id, client_data, attestation_object = forms.registration_parts(response)
         transports = forms.transports_in(response["response"].get("transports"))
@@ -388,7 +387,7 @@ class StoredServer:
                           made["user_verified"], made["backed_up"], made["flags"], _extensions(made))
 
     async def register_complete_async(self, session: Optional[str], response: Mapping[str, Any]) -> Registered:
-        """The same, awaited as `register_begin_async`."""
+        """The same, awaited like `register_begin_async`."""
         return await in_thread(self.register_complete, session, response)
 
     # ---- sign-in
@@ -396,11 +395,11 @@ class StoredServer:
     def authenticate_begin(self, *, user: Optional[bytes] = None, allow: Optional[Ids] = None, user_verification: Requirement = False,
                            timeout: Optional[int] = None, hints: Sequence[str] = (),
                            extensions: Optional[Mapping[str, Any]] = None) -> Tuple[Dict[str, Any], str]:
-        """PublicKeyCredentialRequestOptionsJSON for the page, and the session, a text that only this visitor may have.
+        """Returns PublicKeyCredentialRequestOptionsJSON for the page, and the session, a text that only this visitor may have.
 
-        The parameters are as in `Server.authenticate_begin`; `allow` is as `exclude` of `register_begin`. If it is not given, and the
-        account is known, its passkeys are listed; where they are too many, any that the browser finds may answer, and has to be the
-        account's.
+        The parameters are as in `Server.authenticate_begin`; `allow` has the limits of `exclude` in `register_begin`. If it is not given,
+        and the account is known, its passkeys are listed; if there are too many, any passkey that the browser finds may answer; it has to
+        be the account's.
         """
         handle = None if user is None else limits.check_user(user)
         verification = options.user_verification_of(user_verification)
@@ -412,11 +411,11 @@ class StoredServer:
         return {**answer["options"], **more}, answer["session"]
 
     async def authenticate_begin_async(self, **how: Any) -> Tuple[Dict[str, Any], str]:
-        """The same, awaited as `register_begin_async`."""
+        """The same, awaited like `register_begin_async`."""
         return await in_thread(self.authenticate_begin, **how)
 
     def authenticate_complete(self, session: Optional[str], response: Mapping[str, Any]) -> SignedIn:
-        """Who signed in, of an AuthenticationResponseJSON; the counter is in the file, and the session closed. Raises as
+        """Returns who signed in with an AuthenticationResponseJSON. The counter is in the file, and the session closed. Raises like
         `register_complete`."""
         text = limits.check_session(session)
         raw_id, client_data, data, signature, user = forms.sign_in_parts(response)
@@ -430,37 +429,37 @@ class StoredServer:
         return SignedIn(credential, None, who["backed_up"], who["user_verified"], who["flags"], _extensions(who))
 
     async def authenticate_complete_async(self, session: Optional[str], response: Mapping[str, Any]) -> SignedIn:
-        """The same, awaited as `register_begin_async`."""
+        """The same, awaited like `register_begin_async`."""
         return await in_thread(self.authenticate_complete, session, response)
 
     # ---- sessions and credentials
 
     def _is_of(self, credential: bytes, user: Optional[bytes]) -> bool:
-        """Whether a user has the credential; without one there is nothing to ask. Whose it is never changes but by its deletion."""
+        """Whether a user has the credential; true if no user is given. Its user never changes, except by its deletion."""
         return user is None or any(row.id == credential for row in self.rows(user))
 
     def retire(self, credential: bytes, *, user: Optional[bytes] = None) -> bool:
-        """A credential signs in no more, and its id stays taken; whether it did until now. Its user's open registrations end. With `user`
-        one of another account is left as it is."""
+        """Retires a credential: it can't sign in any more, and its id stays taken. Returns whether it could until now. Its user's open
+        registrations end. With `user`, a credential of another account is left as it is."""
         name = _named(credential)
         return self._is_of(credential, user) and bool(self._ask("retire", credential=name)["retired"])
 
     def delete(self, credential: bytes, *, user: Optional[bytes] = None) -> bool:
-        """A credential is forgotten, and its id may be registered again, by anybody; whether it was there. Its user's open registrations
-        end. `user` is as in `retire`."""
+        """Forgets a credential; anybody may register its id again. Returns whether it was there. Its user's open registrations end. `user`
+        is as in `retire`."""
         name = _named(credential)
         return self._is_of(credential, user) and bool(self._ask("delete", credential=name)["deleted"])
 
     def retire_all(self, user: bytes) -> int:
-        """A user's credentials sign in no more, and his open registrations end; how many did until now."""
+        """Retires all of a user's credentials, and ends the user's open registrations. Returns how many could sign in until now."""
         return int(self._ask("retire_all", user=forms.to_text(limits.check_user(user)))["retired_all"])
 
     def erase(self, user: bytes) -> int:
-        """A user's credentials are forgotten at once, and his open registrations end; how many they were."""
+        """Forgets a user's credentials at once, and ends the user's open registrations. Returns how many there were."""
         return int(self._ask("erase", user=forms.to_text(limits.check_user(user)))["erased"])
 
     def abandon(self, session: Optional[str]) -> bool:
-        """A session ends; whether it was open."""
+        """Ends a session. Returns whether it was open."""
         return bool(self._ask("abandon", session=forms.sealed(limits.check_session(session)))["abandoned"])
 
     def rows(self, user: Optional[bytes] = None) -> List[KeptCredential]:
@@ -475,18 +474,18 @@ class StoredServer:
     # ---- the program's own
 
     def status(self) -> Dict[str, Any]:
-        """How the site is, for a health check and for metrics: `version`, `credentials`, `next_session`, and since the program's start
-        `commits`, `last_commit_microseconds`, `sign_ins` and `registrations` that were accepted, and by step `sign_ins_refused` and
-        `registrations_refused`, and the `lost_log_lines` that could not be written. `known` is as of `StoredServer.known`."""
+        """The state of the site, for a health check and for metrics: `version`, `credentials`, `next_session`, and since the program's
+        start `commits`, `last_commit_microseconds`, the accepted `sign_ins` and `registrations`, by step `sign_ins_refused` and
+        `registrations_refused`, and the `lost_log_lines` that could not be written. `known` is as in `StoredServer.known`."""
         answer = self._ask("status")
         return {**answer["status"], "known": answer["known"]}
 
     def metrics(self) -> str:
-        """`status` in the text format of Prometheus, version 0.0.4, for the answer to its request: content type
-        `text/plain; version=0.0.4`. Names begin with `garvoeng_`, counters end in `_total`, and refusals have the label `step`."""
+        """`status` in the text format of Prometheus, version 0.0.4, for a response with the content type `text/plain; version=0.0.4`. Names
+        begin with `garvoeng_`, counters end in `_total`, and refusals have the label `step`."""
         return prometheus(self.status())
 
     def backup(self, path: str) -> None:
-        """Copies the file to a path of the program's machine at which nothing stands: the copy is a whole file of one moment, on
-        the disk, when this returns. Calls wait meanwhile. `BadInput` where it can't be made; then there is none."""
+        """Copies the file to an unused path on the program's machine: the copy is a whole file of one moment, and is on the disk when this
+        returns. Other calls wait meanwhile. Raises `BadInput` if it can't be made; then there is none."""
         self._ask("backup", path=path)

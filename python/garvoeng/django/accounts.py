@@ -1,4 +1,4 @@
-"""The users of Django, as the acts ask for them. A site changes what it wants by a class of its own, which `GARVOENG["accounts"]` names."""
+"""The users of Django, in the form that the acts use. To change something, a site names a class of its own in `GARVOENG["accounts"]`."""
 from __future__ import annotations
 
 from typing import Any, Dict, List, Mapping, Optional
@@ -18,12 +18,12 @@ from .sign_ins import AT, FIELDS, handle_of
 
 
 def _said(request: Any) -> Dict[str, Any]:
-    """What the page sent. It was read before, as JSON."""
+    """What the page sent. It has already been read, as JSON."""
     return object_in(getattr(request, "garvoeng_body", b"{}"))
 
 
 def required_fields() -> List[str]:
-    """The user model's REQUIRED_FIELDS that may not be empty: what the page sends as `fields` when somebody makes an account."""
+    """The user model's REQUIRED_FIELDS that may not be empty: the page sends them as `fields` when somebody makes an account."""
     model = get_user_model()
     return [name for name in model.REQUIRED_FIELDS if not model._meta.get_field(name).blank]
 
@@ -48,7 +48,7 @@ class DjangoAccounts(Accounts):
         return Visitor(handle_of(request.user), request.user.get_username(), request.session.get(AT))
 
     def may_register(self, request: Any, name: str, user: Optional[bytes]) -> bool:
-        """Of a new account the name and the `fields` pass the model's validators, and no user has the name."""
+        """For a new account, the name and the `fields` must pass the model's validators, and no user may have the name."""
         if user is not None:
             return True
         if not settings.GARVOENG.get("sign_up", True):
@@ -82,7 +82,7 @@ class DjangoAccounts(Accounts):
             raise Denied(_("the name is another account's"), 409) from None
 
     def signed_in(self, request: Any, user: bytes, accepted: Any) -> Mapping[str, Any]:
-        """By all backends, any of which may turn the visitor away."""
+        """Signs in through all backends, any of which may turn the visitor away."""
         found = authenticate(request, passkey_accepted=accepted)
         if found is None:
             raise Denied(_("the account may not sign in"))
@@ -93,6 +93,6 @@ class DjangoAccounts(Accounts):
         logout(request)
 
     def refused(self, request: Any, error: Exception) -> None:
-        """A refused sign-in sends Django's signal, as a wrong password does."""
+        """A refused sign-in sends Django's signal, like a wrong password."""
         if isinstance(error, Refused) and not error.is_registration:
             user_login_failed.send(sender=__name__, credentials={"passkey": str(_said(request).get("id"))[:100]}, request=request)

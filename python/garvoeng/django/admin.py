@@ -1,4 +1,4 @@
-"""The passkeys of each user in Django's admin: to be looked at, and retired."""
+"""The passkeys of each user in Django's admin, which can be looked at and retired."""
 from __future__ import annotations
 
 from datetime import datetime, timezone
@@ -21,7 +21,7 @@ def _when(seconds: Optional[int]) -> Optional[datetime]:
 
 @admin.register(Account)
 class AccountAdmin(admin.ModelAdmin):  # type: ignore[misc]
-    """An account's passkeys. With the account, or its user, they are deleted."""
+    """An account's passkeys. They are deleted with the account, or its user."""
 
     list_display = ("user", "passkeys", "last_used")
     fields = readonly_fields = ("user", "listed")

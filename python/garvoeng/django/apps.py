@@ -6,7 +6,7 @@ _AFTER, _MIDDLEWARE = "django.contrib.auth.middleware.AuthenticationMiddleware",
 
 
 def _made(sender, using, **_):
-    """Makes the tables where no migration does: with MIGRATION_MODULES None, as pytest-django's --nomigrations."""
+    """Makes the tables if no migration does: with MIGRATION_MODULES None, as with pytest-django's --nomigrations."""
     from django.db import connections, router, transaction
 
     from .server import rows_of

@@ -1,4 +1,4 @@
-"""Users by their passkeys."""
+"""Users signing in by passkey."""
 from __future__ import annotations
 
 from typing import Any, Mapping, Optional, Union
@@ -11,9 +11,9 @@ from .server import server
 
 
 class PasskeyBackend(ModelBackend):
-    """`authenticate(request, passkey_session=.., passkey=..)` is the user of an AuthenticationResponseJSON, if it may sign in; the
-    counter is stored, and the session closed. Raises `Refused` and `BadInput`. `passkey_accepted` is what was accepted already. A password
-    is none of its."""
+    """`authenticate(request, passkey_session=.., passkey=..)` returns the user of an AuthenticationResponseJSON, if the user may sign in,
+    stores the counter, and closes the session. Raises `Refused` and `BadInput`. `passkey_accepted` is a result that was accepted already.
+    The backend takes no passwords."""
 
     def authenticate(self, request: Any, passkey_session: Optional[str] = None, passkey: Optional[Mapping[str, Any]] = None,
                      passkey_accepted: Union[SignedIn, Registered, None] = None, **_: Any) -> Any:

@@ -10,7 +10,7 @@ from .sign_ins import is_signed_in
 
 
 class PasskeyMiddleware(MiddlewareMixin):
-    """Signs out who signed in by a passkey that is retired or deleted since, or whose sign-in was ended. It stands after
+    """Signs out a visitor whose passkey was retired or deleted since the sign-in, or whose sign-in was ended. It has to come after
     AuthenticationMiddleware."""
 
     def process_request(self, request: Any) -> None:

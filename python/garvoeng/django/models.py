@@ -1,4 +1,4 @@
-"""The user handles of the site's users, and the rows of `garvoeng.sql`, to be read: what writes them is `garvoeng.django.server`."""
+"""The user handles of the site's users, and the rows of `garvoeng.sql`, for reading only: `garvoeng.django.server` writes them."""
 from django.conf import settings
 from django.db import models
 
@@ -11,7 +11,7 @@ class Account(models.Model):
 
 
 class Credential(models.Model):
-    """A credential's row. Times are seconds since 1970."""
+    """The row of a credential. Times are in seconds since 1970."""
 
     id = models.BinaryField(primary_key=True)
     user_handle = models.BinaryField(max_length=64)

@@ -1,9 +1,9 @@
-"""The acts as views of Django REST framework: its authentication, throttles, renderers and exceptions are those of the site.
+"""The acts as views of Django REST framework, with the site's own authentication, throttles, renderers and exceptions.
 
     urlpatterns = [.., path("api/passkeys/", include("garvoeng.django.rest"))]
 
-Permissions and throttles are those of `PasskeyView`, which a site may change. A site that gives tokens has `GARVOENG["accounts"]` name a
-class of `DjangoAccounts` whose `signed_in` answers one.
+Permissions and throttles are those of `PasskeyView`, which a site may change. A site that issues tokens names in `GARVOENG["accounts"]` a
+subclass of `DjangoAccounts` whose `signed_in` returns one.
 """
 from __future__ import annotations
 
@@ -24,7 +24,7 @@ app_name = "garvoeng_rest"
 
 
 class BodyParser(BaseParser):  # type: ignore[misc]
-    """A body as it is, which the act reads: `request.data` has its bytes."""
+    """Leaves the body as it is, for the act to read: `request.data` has its bytes."""
 
     media_type = "application/json"
 

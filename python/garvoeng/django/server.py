@@ -1,4 +1,4 @@
-"""`SqlServer` over Django's own connection, so that each call is a part of the transaction in which it is made, and the acts over it."""
+"""`SqlServer` over Django's own connection, so that each call is part of the transaction in which it is made, and the acts over it."""
 from __future__ import annotations
 
 from contextlib import contextmanager
@@ -32,7 +32,7 @@ def rows_of(connection: Any) -> Rows:
 
 
 def database() -> str:
-    """The alias of the database that has the passkeys, by DATABASE_ROUTERS."""
+    """The alias of the database for the passkeys, by DATABASE_ROUTERS."""
     alias: str = router.db_for_write(apps.get_model("garvoeng", "Credential"))
     return alias
 
@@ -57,7 +57,7 @@ class DjangoServer(SqlServer):
 
 @lru_cache(1)
 def server() -> DjangoServer:
-    """The relying party of the setting `GARVOENG`."""
+    """The relying party in the setting `GARVOENG`."""
     said = settings.GARVOENG
     more = {name: said[name] for name in _OF_SERVER if name in said}
     return DjangoServer(Server(said["rp_id"], said["origins"], said.get("rp_name"), **more), said.get("lifetime", LIFETIME))
@@ -65,13 +65,13 @@ def server() -> DjangoServer:
 
 @lru_cache(1)
 def rate_limit() -> Limit:
-    """The limit of requests of the setting `GARVOENG`."""
+    """The limit of requests in the setting `GARVOENG`."""
     return limit_of(settings.GARVOENG.get("rate_limit"))
 
 
 @lru_cache(1)
 def core() -> Passkeys:
-    """The acts of the setting `GARVOENG`."""
+    """The acts for the setting `GARVOENG`."""
     said = settings.GARVOENG
     accounts = import_string(said.get("accounts", "garvoeng.django.accounts.DjangoAccounts"))()
     # Before Django 4 these are hosts, of which no scheme is known; one may stand for many.

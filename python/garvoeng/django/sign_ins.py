@@ -1,4 +1,4 @@
-"""Visitors who are signed in: what their sessions of Django have, and what ends with them."""
+"""The sign-ins of visitors: what their Django sessions contain, and what ends with them."""
 from __future__ import annotations
 
 import secrets
@@ -14,13 +14,13 @@ from .server import server
 
 BACKEND = "garvoeng.django.backends.PasskeyBackend"
 SIGNED_IN, AT, REGISTRATION, SIGN_IN, FIELDS = "garvoeng_signed_in", "garvoeng_signed_in_at", "garvoeng_registration", "garvoeng_sign_in", "garvoeng_fields"
-"""What a visitor's session of Django has: the number of the sign-in, its time, what is open, and fields of a new user."""
+"""The keys of a visitor's Django session: the number of the sign-in, its time, open ceremonies, and the fields of a new user."""
 KEYS = dict(zip(core_requests.COOKIES, (SIGNED_IN, REGISTRATION, SIGN_IN)))
-"""What stands in the place of each cookie of the acts."""
+"""The session's key in place of each cookie of the acts."""
 
 
 class Kept(Mapping[str, str]):
-    """A session of Django's as the cookies of the acts."""
+    """A Django session in the form of the cookies of the acts."""
 
     def __init__(self, session: Any) -> None:
         self._session = session
@@ -39,12 +39,12 @@ class Kept(Mapping[str, str]):
 
 
 def handle_of(user: Any) -> bytes:
-    """The user handle of a user, which is made where there is none."""
+    """The user handle of a user, which is made if there is none."""
     return bytes(Account.objects.get_or_create(user=user, defaults={"handle": secrets.token_bytes(32)})[0].handle)
 
 
 def is_signed_in(request: Any) -> bool:
-    """Whether the sign-in goes on, if it was by a passkey: it ends with it."""
+    """Whether the sign-in is still valid; one that was made with a passkey ends with it."""
     return request.session.get(BACKEND_SESSION_KEY) != BACKEND or server().signed_in(request.session.get(SIGNED_IN)) is not None
 
 
@@ -57,7 +57,7 @@ def _end_all(session: Any) -> None:
 
 
 def logged_in(sender: Any, request: Any, user: Any, **_: Any) -> None:
-    """A sign-in has a time, and one by a passkey a number. What was open before ends."""
+    """Gives each sign-in a time, and one made with a passkey a number. What was open before ends."""
     session = getattr(request, "session", None)
     if session is None:
         return
@@ -75,5 +75,5 @@ def logged_out(sender: Any, request: Any, **_: Any) -> None:
 
 
 def account_deleted(sender: Any, instance: Any, **_: Any) -> None:
-    """With a user go his passkeys."""
+    """Deletes a user's passkeys as well."""
     server().erase(bytes(instance.handle))

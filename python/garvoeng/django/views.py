@@ -1,4 +1,4 @@
-"""What the addresses of the app answer."""
+"""The views of the app."""
 from __future__ import annotations
 
 from contextlib import nullcontext
@@ -23,14 +23,14 @@ TEMPLATE = "garvoeng/passkeys.html"
 
 
 class _Token(CsrfViewMiddleware):
-    """Django's own look at the token of a post, which answers why it is none."""
+    """Django's own check of a post's token, which answers why it is not valid."""
 
     def _reject(self, request: Any, reason: str) -> str:  # type: ignore[override]
         return reason
 
 
 def check_token(request: Any) -> None:
-    """A post has Django's token."""
+    """Checks Django's token in a post."""
     check = _Token(lambda _: HttpResponse())
     check.process_request(request)
     reason = check.process_view(request, None, (), {})
@@ -47,7 +47,7 @@ def body_of(request: Any) -> Any:
 
 
 def answer_to(request: Any, path: str, read: Any = body_of) -> Answer:
-    """What an act answers; what the visitor's cookies would have stands in his session. A registration and its user are one
+    """Answers with the result of an act; the visitor's session has what the cookies would have. A registration and its user are one
     transaction."""
     def posted(_: int) -> Any:
         check_token(request)
@@ -67,7 +67,7 @@ def answer_to(request: Any, path: str, read: Any = body_of) -> Answer:
 
 
 def with_token(request: Any, response: Any) -> Any:
-    """The response with the token's cookie, where a sign-in changed it."""
+    """The response with the token's cookie, if a sign-in changed it."""
     return _Token(lambda _: HttpResponse()).process_response(request, response)
 
 
@@ -83,7 +83,7 @@ def act(request: Any, path: str) -> HttpResponse:
 @require_GET
 @ensure_csrf_cookie
 def page(request: Any, path: str = "") -> HttpResponse:
-    """A file, or the page by the site's template."""
+    """A file, or the page from the site's template."""
     response = act(request, path)
     if path == "":
         try:

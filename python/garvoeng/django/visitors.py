@@ -1,4 +1,4 @@
-"""Who asks, for views of the site's own."""
+"""The current visitor, for a site's own views."""
 from __future__ import annotations
 
 from typing import Any, Optional
@@ -9,12 +9,12 @@ from .sign_ins import Kept
 
 
 def visitor(request: Any) -> Optional[Visitor]:
-    """Who is signed in, by a password too, or None: with the account's user handle, and when."""
+    """The visitor who is signed in, also if by a password, or None: has the account's user handle, and the time."""
     return core().visitor(Request("GET", "", request.headers, Kept(request.session), native=request))
 
 
 def fresh(request: Any, seconds: float) -> bool:
-    """Whether the visitor signed in at most this many seconds ago: ask it before a sensitive act. Else the page calls
+    """Whether the visitor signed in at most this many seconds ago. Check it before a sensitive act; if it is false, the page calls
     `passkeys.signIn({ again: true })`."""
     found = visitor(request)
     return found is not None and found.is_fresh(seconds)

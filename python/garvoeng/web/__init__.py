@@ -1,17 +1,18 @@
-"""The requests of a site with passkeys, in no framework: JSON and cookies in, JSON and cookies out.
+"""The requests of a site with passkeys, without a framework: JSON and cookies in, JSON and cookies out.
 
     core = Passkeys(server, accounts)
     answer = core.answer(Request(method, path, headers, cookies, read, address, native))
     visitor = core.visitor(request)
 
-`garvoeng.flask`, `garvoeng.django`, `garvoeng.starlette` and `garvoeng.aiohttp` are over it. `server` keeps the passkeys: a `SqlServer`, a
-`KeepingServer` or a `StoredServer`. The acts, each a POST of a JSON object but `list`: `register/begin` (`name`) and `sign-in/begin` answer
-options, `register/finish` and `sign-in/finish` take the browser's response and answer `id` and `user`, `sign-out`; `list` answers `id`,
-`name`, `model`, `created`, `used`, `backed_up` and `retired` of each passkey, `rename` takes `id` and `name`, `retire` `id`. `sign-in/begin`
-with `"again": true` is for who is signed in and shall be so afresh. An empty path is a page, `passkeys.js` the script for pages of the site.
+`garvoeng.flask`, `garvoeng.django`, `garvoeng.starlette` and `garvoeng.aiohttp` build on it. `server` keeps the passkeys: a `SqlServer`, a
+`KeepingServer` or a `StoredServer`. Each act except `list` is a POST of a JSON object. `register/begin` (with `name`) and `sign-in/begin`
+answer options. `register/finish` and `sign-in/finish` take the browser's response and answer `id` and `user`. The others are `sign-out`;
+`list`, which answers `id`, `name`, `model`, `created`, `used`, `backed_up` and `retired` of each passkey; `rename`, which takes `id` and
+`name`; and `retire`, which takes `id`. `sign-in/begin` with `"again": true` is for a visitor who is signed in and has to sign in afresh.
+The empty path is a page, `passkeys.js` the script for the site's pages.
 
-Answers: 400 for invalid input, 401 if nobody is signed in or a fresher sign-in is needed, 403 for a refusal (`refusal` is its name), for
-a visitor who may not, and for a page of another site, 429 with Retry-After for an address that asks too often, 500 for a damaged row.
+Answers: 400 for invalid input, 401 if nobody is signed in or a fresher sign-in is needed, 403 for a refusal (`refusal` is its name), for a
+visitor who may not do this, and for a page of another site, 429 with Retry-After for an address that asks too often, 500 for a damaged row.
 """
 from __future__ import annotations
 
@@ -37,7 +38,7 @@ _CALLS = ("secret", "keep_sign_in", "signed_in", "abandon", "names", "rename", "
 
 
 def _policy(top_origins: Sequence[str]) -> str:
-    """The page's Content-Security-Policy: it loads what the site has and nothing else, and stands in no frame but of `top_origins`."""
+    """The page's Content-Security-Policy: the page loads only the site's own files, and only the `top_origins` may have it in a frame."""
     frames = " ".join(top_origins) or "'none'"
     return ("default-src 'none'; script-src 'self'; connect-src 'self'; style-src 'self'; img-src 'self'; font-src 'self'; base-uri 'none'; "
             f"form-action 'none'; frame-ancestors {frames}")
@@ -67,7 +68,7 @@ def _secret(value: Union[str, bytes, None]) -> Optional[bytes]:
 
 
 def _how(how: Optional[Mapping[str, Any]], call: str, *words: Any) -> Mapping[str, Any]:
-    """What a begin takes beside the account. It is tried once, so that a mistake of the site does not show at its visitors."""
+    """The parameters of a begin besides the account. They are tried once, so that a site's mistake shows before its visitors meet it."""
     if how is not None and not isinstance(how, Mapping):
         raise TypeError(f"the options of {call} are a dict, as {{\"user_verification\": True}}, and not {kind_of(how)}")
     made = dict(how or {})
@@ -79,21 +80,21 @@ def _how(how: Optional[Mapping[str, Any]], call: str, *words: Any) -> Mapping[st
 
 
 class Passkeys:
-    """The acts over a server and the site's accounts, of any `Accounts` or none.
+    """The acts over a server and the site's accounts; `accounts` is any `Accounts` or None.
 
-    `store` keeps who is signed in, and names of passkeys: the tables of a `SqlServer`, if not said, and of another server this process's
-    memory, which is for a site of one process. Other sites pass `SqlWebStore(SqlServer(..))`, or their own. `secret`, of 32 bytes or more,
-    signs the cookie of an open registration; if not said the store has one.
+    `store` keeps the sign-ins, and the names of passkeys. By default these are the tables of a `SqlServer`; with another server, this
+    process's memory, which suits a site of one process. Other sites pass `SqlWebStore(SqlServer(..))`, or their own. `secret`, of 32 bytes
+    or more, signs the cookie of an open registration; by default it is the store's.
 
-    A sign-in ends after `signed_in_for` seconds, by `sign-out`, and where its passkey is retired or deleted. A passkey is added for `fresh`
-    seconds after a sign-in, and by the sign-in that began it. Cookies are HttpOnly and SameSite=Lax, and where an origin of the server is
-    https also Secure, with `__Host-` before the name. A request that changes something has to be JSON, and of a page at an origin of the
-    server's or of `trusted_origins`. `rate_limit` is a `RateLimit()` if not said, and False for none.
+    A sign-in ends after `signed_in_for` seconds, by `sign-out`, and when its passkey is retired or deleted. A passkey can be added for
+    `fresh` seconds after a sign-in, and only in the sign-in that began it. Cookies are HttpOnly and SameSite=Lax, and if an origin of the
+    server is https also Secure, with `__Host-` before the name. A request that changes something has to be JSON, and come from a page at an
+    origin of the server or of `trusted_origins`. `rate_limit` is a `RateLimit()` by default, and False for none.
 
-    `registration` and `sign_in` are parameters for `register_begin` and `authenticate_begin`, such as `{"user_verification": True}`. `models` has
-    the names of authenticators by their aaguid, and `translate(text)` gives the text of an error in the visitor's language.
+    `registration` and `sign_in` are parameters for `register_begin` and `authenticate_begin`, such as `{"user_verification": True}`.
+    `models` has the names of authenticators by their aaguid, and `translate(text)` returns the text of an error in the visitor's language.
 
-    Raises `TypeError` and `BadInput` of what is out of its limits.
+    Raises `TypeError` and `BadInput` for values that are out of their limits.
     """
 
     def __init__(self, server: PasskeyServer, accounts: Any = None, *, store: Optional[WebStore] = None, secret: Union[str, bytes, None] = None,
@@ -121,15 +122,15 @@ class Passkeys:
         self.translate = translate
 
     def answer(self, request: Request) -> Answer:
-        """What a request is answered. Raises what the storage raises, and the site's functions."""
+        """Answers a request. Raises what the storage and the site's functions raise."""
         return at_once(Visit(self, request, AT_ONCE).answered())
 
     async def answer_async(self, request: Request) -> Answer:
-        """The same, awaited: the server's calls are made by a thread of the loop, the site's functions by the loop."""
+        """The same, awaited: a thread of the loop makes the server's calls, the loop those of the site's functions."""
         return await Visit(self, request, AWAITED).answered()
 
     def visitor(self, request: Request) -> Optional[Visitor]:
-        """Who is signed in, or None. `fresh` of a step-up is `visitor.is_fresh(seconds)`."""
+        """The visitor who is signed in, or None. For a step-up, check `visitor.is_fresh(seconds)`."""
         return at_once(Visit(self, request, AT_ONCE).visitor())
 
     async def visitor_async(self, request: Request) -> Optional[Visitor]:
@@ -137,7 +138,7 @@ class Passkeys:
         return await Visit(self, request, AWAITED).visitor()
 
     def end(self, request: Request) -> None:
-        """Ends the visitor's sign-in, and what he has open: for a sign-out of the site's own. Who kept the cookies is nobody then."""
+        """Ends the visitor's sign-in and open ceremonies. Call it from the site's own sign-out. The old cookies sign nobody in any more."""
         at_once(Visit(self, request, AT_ONCE).end())
 
     async def end_async(self, request: Request) -> None:

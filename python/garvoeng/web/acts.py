@@ -1,4 +1,4 @@
-"""What a visitor asks, act by act. Each call is awaited, whether it waits (`driving`) or not."""
+"""The visitor's requests, act by act. Each call is awaited, whether or not it waits (`driving`)."""
 from __future__ import annotations
 
 import hmac
@@ -31,14 +31,14 @@ _log = logging.getLogger("garvoeng")
 
 
 class _Told(Exception):
-    """The request is answered so."""
+    """Carries the answer to the request."""
 
     def __init__(self, status: int, text: str, **headers: str) -> None:
         self.status, self.text, self.headers = status, text, {name.replace("_", "-"): value for name, value in headers.items()}
 
 
 def _logged(text: Any) -> str:
-    """What a log may have of a visitor's word: nothing that ends a line."""
+    """A visitor's text in a form fit for a log, in which nothing ends a line."""
     return text[:_MOST_LOGGED] if isinstance(text, str) and text[:_MOST_LOGGED].isprintable() and text else "-"
 
 
@@ -110,7 +110,7 @@ class Visit:
         return own(self.core.accounts, name)
 
     async def _of_site(self, name: str, *words: Any) -> Any:
-        """What a function of the site's answers; None without it."""
+        """The result of one of the site's functions; None if there is none."""
         function = self._function(name)
         return None if function is None else await self.calls.site(function, self.request.native, *words)
 
@@ -123,7 +123,7 @@ class Visit:
         refuse(f"{name} of the accounts", said, wanted, awaited_in="a site whose core is awaited")
 
     async def _refused(self, kind: str, session: Optional[str], error: Exception) -> None:
-        """Logs a refusal (docs/OPERATING.md), and tells the site."""
+        """Logs a refusal (docs/OPERATING.md), and calls the site's function."""
         said = f"{error.name} {error.step}" if isinstance(error, Refused) else "by the site"
         # Who has the whole session has what the visitor has, so a log has its front.
         _log.warning("%s refused %s session %s credential %s address %s: %s", kind, said, _logged((session or "")[:8]),
@@ -136,7 +136,7 @@ class Visit:
     # ---- who is signed in
 
     async def _kept(self) -> Optional[Visitor]:
-        """Who is signed in by the core's own cookie."""
+        """The visitor who is signed in by the core's own cookie."""
         number = self._cookie(SIGNED_IN)
         kept = None if number is None else await self.calls.of(self.store, "signed_in", number)
         if kept is None:
@@ -148,7 +148,7 @@ class Visit:
         return Visitor(kept.user, None, kept.at, kept.credential, kept.number)
 
     async def visitor(self) -> Optional[Visitor]:
-        """Who is signed in: by the site's own word, where it has one."""
+        """The visitor who is signed in, by the site's own function if it has one."""
         function = self._function("user_of")
         kept = await self._kept()
         if function is None:
@@ -173,7 +173,7 @@ class Visit:
         return visitor
 
     async def _signs_in(self, user: bytes, accepted: Any) -> Json:
-        """The visitor is signed in from now on; what the site adds to the answer."""
+        """Signs the visitor in. Returns what the site adds to the answer."""
         more = await self._of_site("signed_in", user, accepted)
         if more is not None and not isinstance(more, Mapping):
             self._wrong("signed_in", more, "a mapping or None")
@@ -181,7 +181,7 @@ class Visit:
         return dict(more or {})
 
     async def _keeps(self, user: bytes, credential: Optional[bytes]) -> str:
-        """Keeps a sign-in in the place of the one that the visitor's cookie has; its number."""
+        """Stores a sign-in in place of the one in the visitor's cookie. Returns its number."""
         number: str = await self.calls.of(self.store, "keep_sign_in", user, credential, lifetime=self.core.signed_in_for)
         await self._ends(self._cookie(SIGNED_IN))
         self.cookies[SIGNED_IN] = number
@@ -198,8 +198,8 @@ class Visit:
         return to_text(hmac.new(secret, _PURPOSE + text.encode(), sha256).digest())
 
     async def _begun(self) -> Tuple[Optional[str], str, Optional[str]]:
-        """The open registration of the visitor's cookie: its session, the account's name, and the sign-in that began it. No session where
-        there is none that this site gave."""
+        """The open registration in the visitor's cookie: its session, the account's name, and the sign-in that began it. The session is
+        None if there is none that this site made."""
         text, _, code = (self._cookie(REGISTRATION) or "").rpartition(".")
         if not text or not hmac.compare_digest(code.encode(), (await self._code(text)).encode()):
             return None, "", None
@@ -208,7 +208,7 @@ class Visit:
         return session, name, number
 
     async def _beginner(self) -> Tuple[bytes, str, Optional[Visitor]]:
-        """The user handle and the name of who begins a registration, and the visitor, if it is one who is signed in."""
+        """The user handle and name for a registration that begins, and the visitor, if one is signed in."""
         visitor = await self.visitor()
         name = visitor.name if visitor is not None and visitor.name is not None else pages.name_in(self.said)
         if visitor is None:
@@ -239,11 +239,11 @@ class Visit:
         return dict(options)
 
     def _bound(self, number: Optional[str]) -> Json:
-        """A server that keeps sign-ins too looks at one in the transaction of the call."""
+        """The sign-in for a server that stores sign-ins too, which checks it in the transaction of the call."""
         return {"sign_in": number} if number is not None and self.store.looks_up else {}
 
     async def _is_by(self, number: Optional[str]) -> bool:
-        """Whether the visitor is the one who began a registration: by this sign-in, or not signed in."""
+        """Whether the visitor is the one who began a registration: with this sign-in, or not signed in."""
         visitor = await self.visitor()
         return visitor is None if number is None else visitor is not None and visitor.number == number
 
@@ -303,7 +303,7 @@ class Visit:
         return {"user": to_text(who.credential.user), **more}
 
     async def end(self) -> None:
-        """The visitor's sign-in ends, and what he has open."""
+        """Ends the visitor's sign-in and open ceremonies."""
         await self._ends(self._cookie(SIGNED_IN))
         for session in ((await self._begun())[0], self._cookie(SIGN_IN)):
             if session is not None:
@@ -343,6 +343,6 @@ ACTS: Dict[str, Tuple[str, Act]] = {
     "sign-in/begin": ("POST", Visit.sign_in_begin), "sign-in/finish": ("POST", Visit.sign_in_finish), "sign-out": ("POST", Visit.sign_out),
     "list": ("GET", Visit.listed), "rename": ("POST", Visit.rename), "retire": ("POST", Visit.retire),
 }
-"""The acts by their paths, and the method of each."""
+"""The acts by their paths, with the method of each."""
 PATHS: Dict[str, str] = {**dict.fromkeys(pages.FILES, "GET"), **{path: method for path, (method, _) in ACTS.items()}}
-"""The paths below the address of the acts, the page's among them, with the method of each."""
+"""The paths below the address of the acts, including the page's, with the method of each."""

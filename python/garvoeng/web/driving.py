@@ -1,4 +1,4 @@
-"""How the acts make their calls: at once, or awaited. The acts are written once, with `await` at each call."""
+"""How the acts make their calls: at once, or awaited. The acts are written once, with `await` before each call."""
 from __future__ import annotations
 
 from typing import Any, Callable, Coroutine, Protocol, TypeVar
@@ -12,10 +12,10 @@ class Calls(Protocol):
     """How calls are made."""
 
     async def of(self, owner: Any, name: str, *words: Any, **named: Any) -> Any:
-        """A call of a server or a store."""
+        """Calls a server or a store."""
 
     async def site(self, function: Callable[..., Any], *words: Any) -> Any:
-        """A call of a function of the site's, in the thread of the request."""
+        """Calls one of the site's functions, in the thread of the request."""
 
 
 class AtOnce:
@@ -29,8 +29,8 @@ class AtOnce:
 
 
 class Awaited:
-    """Calls of a loop: a call's form that is awaited, where it has one, and else a thread of the loop. Of the site's functions what can be
-    awaited is."""
+    """Calls from a loop: the awaited form of a call, if it has one, and otherwise a thread of the loop. What the site's functions return is
+    awaited if it can be."""
 
     async def of(self, owner: Any, name: str, *words: Any, **named: Any) -> Any:
         form = getattr(owner, f"{name}_async", None)
@@ -44,7 +44,7 @@ AT_ONCE, AWAITED = AtOnce(), Awaited()
 
 
 def at_once(act: Coroutine[Any, Any, Answered]) -> Answered:
-    """What an act gives whose calls are made at once, so that it never waits."""
+    """The result of an act whose calls are made at once, so that it never waits."""
     try:
         act.send(None)
     except StopIteration as done:

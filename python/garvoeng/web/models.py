@@ -1,4 +1,4 @@
-"""Names of authenticators' models, by their aaguid. It is the authenticator's own word: for a list, and no proof of anything."""
+"""Names of authenticator models, by aaguid. The aaguid is the authenticator's own claim: good for a list, but no proof of anything."""
 from __future__ import annotations
 
 import json
@@ -7,9 +7,10 @@ from typing import Dict, Mapping, Optional
 from uuid import UUID
 
 MODELS: Dict[str, str] = json.loads(Path(__file__).with_name("models.json").read_text("utf-8"))
-"""The names that a list shows, by the aaguid as text; a site can pass another table. An aaguid of zeros, which many send, has none."""
+"""The names that a list shows, by the aaguid as text; a site can pass another table. An aaguid of zeros, which many authenticators send,
+has no name."""
 
 
 def model_of(aaguid: Optional[bytes], models: Mapping[str, str]) -> Optional[str]:
-    """A model's name, where the table has it."""
+    """The name of a model, if the table has it."""
     return None if aaguid is None else models.get(str(UUID(bytes=aaguid)))

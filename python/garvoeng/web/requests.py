@@ -1,4 +1,4 @@
-"""A visitor's request as the web core takes it, and what it is answered."""
+"""A visitor's request in the form that the web core takes, and the answer."""
 from __future__ import annotations
 
 import json
@@ -10,56 +10,56 @@ from ..errors import BadInput
 from ..pages import MAX_BODY
 
 SIGNED_IN, REGISTRATION, SIGN_IN = COOKIES = "garvoeng", "garvoeng_registration", "garvoeng_sign_in"
-"""The cookies: of who is signed in, of an open registration, and of an open sign-in."""
+"""The cookies for a sign-in, for an open registration, and for an open sign-in ceremony."""
 MAX_COOKIE = 4096
-"""The most characters of a cookie that is read."""
+"""The longest cookie that is read, in characters."""
 MAX_DIGITS = 64
-"""The most digits of a number: what no request has of its own is not made a number, which takes long."""
+"""The most digits of a number. No request needs longer ones, and converting them takes long."""
 
 
 class Headers(Protocol):
-    """A request's headers; `get` does not mind capital letters."""
+    """A request's headers; `get` ignores case."""
 
     def get(self, name: str) -> Optional[str]:
-        """A header's value, or None."""
+        """The value of a header, or None."""
 
 
 @dataclass(frozen=True)
 class Request:
-    """A request, as a framework has it."""
+    """A request, as a framework passes it."""
 
     method: str
     path: str
-    """Below the address of the acts, without a slash before it: `register/begin`, and empty of the page."""
+    """The path below the address of the acts, without a leading slash: `register/begin`, or empty for the page."""
     headers: Headers
     cookies: Mapping[str, str]
     read: Callable[[int], Any] = lambda most: b""
     """Reads at most this many bytes of the body; the awaited core awaits the result. A mapping is a JSON object that was read before."""
     address: Optional[str] = None
-    """The visitor's, by which requests are counted."""
+    """The visitor's address, by which requests are counted."""
     native: Any = None
-    """The framework's own request, which the functions of `Accounts` are given."""
+    """The framework's own request, which is passed to the functions of `Accounts`."""
 
 
 @dataclass
 class Answer:
-    """What a request is answered."""
+    """The answer to a request."""
 
     status: int
     body: bytes
     headers: Dict[str, str]
     cookies: Dict[str, Optional[str]] = field(default_factory=dict)
-    """The cookies to be set, by their names without `__Host-`; None of those that go."""
+    """The cookies to set, by their names without `__Host-`; None for those to delete."""
     is_secure: bool = False
-    """Whether the cookies are for https alone."""
+    """Whether the cookies are only for https."""
 
     def lines(self) -> List[Tuple[str, str]]:
-        """All headers by their names, with those that set cookies."""
+        """All headers by name, including those that set cookies."""
         return [*self.headers.items(), *(("Set-Cookie", cookie_line(name, value, self.is_secure)) for name, value in self.cookies.items())]
 
 
 def cookie_name(name: str, is_secure: bool) -> str:
-    """A browser takes `__Host-` from this very host alone, by https (RFC 6265bis, section 4.1.3.2)."""
+    """The cookie's name. A browser accepts `__Host-` only from this very host, by https (RFC 6265bis, section 4.1.3.2)."""
     return f"__Host-{name}" if is_secure else name
 
 
@@ -69,8 +69,8 @@ def cookie_line(name: str, value: Optional[str], is_secure: bool) -> str:
 
 
 def check_site(headers: Headers, origins: Sequence[str]) -> bool:
-    """Whether a request that changes something is one of the site's own pages, by what browsers say of it (Fetch, section 3.2; Fetch
-    Metadata, section 2.4). What says neither is no browser's that has passkeys."""
+    """Checks that a request that changes something comes from one of the site's own pages, by the headers of browsers (Fetch, section 3.2;
+    Fetch Metadata, section 2.4). A request with neither is not from a browser that has passkeys."""
     origin, site = headers.get("Origin"), headers.get("Sec-Fetch-Site")
     if origin is not None:
         return origin in origins
@@ -78,7 +78,7 @@ def check_site(headers: Headers, origins: Sequence[str]) -> bool:
 
 
 def check_head(headers: Headers) -> None:
-    """What is asked of a request before its body is read. Only JSON is taken: a form of another site can't send it."""
+    """Checks a request before its body is read. Only JSON is accepted: a form of another site can't send it."""
     content_type, length = headers.get("Content-Type") or "", headers.get("Content-Length")
     if content_type.split(";")[0].strip().lower() != "application/json":
         raise BadInput("the body is not application/json")
@@ -106,7 +106,7 @@ def _constant(name: str) -> Any:
 
 
 def object_in(body: Any) -> Dict[str, Any]:
-    """The JSON object of a body (RFC 8259): in UTF-8, each member once."""
+    """The JSON object in a body (RFC 8259): in UTF-8, each member only once."""
     if isinstance(body, Mapping):
         return dict(body)
     if len(body) > MAX_BODY:

@@ -1,4 +1,4 @@
-"""What the web core keeps beside the credentials: who is signed in, what passkeys are called, and a secret."""
+"""What the web core stores beside the credentials: the sign-ins, the names of passkeys, and a secret."""
 from __future__ import annotations
 
 import os
@@ -14,39 +14,39 @@ from ..sql import SIGNED_IN, SqlServer
 from ..sql_rows import KeptSignIn, Rows
 
 MOST = 100_000
-"""The most sign-ins of a `MemoryWebStore`; the one that began longest ago ends then."""
+"""The most sign-ins in a `MemoryWebStore`; beyond it the oldest one ends."""
 
 
 class WebStore(Protocol):
-    """What keeps this. Calls come from any thread."""
+    """This storage's interface. Calls come from any thread."""
 
     looks_up: bool
-    """Whether `signed_in` finds no one whose passkey is retired or deleted; else the core asks the server."""
+    """Whether `signed_in` leaves out a visitor whose passkey is retired or deleted; if not, the core asks the server."""
 
     def secret(self) -> bytes:
-        """32 bytes that all processes of the site have, and nobody else."""
+        """Returns 32 bytes that all processes of the site have, and nobody else."""
 
     def keep_sign_in(self, user: bytes, credential: Optional[bytes] = None, *, lifetime: int = SIGNED_IN) -> str:
-        """Keeps that a visitor is signed in as this user for `lifetime` seconds: a number that nobody can guess."""
+        """Stores that a visitor is signed in as this user for `lifetime` seconds. Returns a number that nobody can guess."""
 
     def signed_in(self, number: Optional[str]) -> Optional[KeptSignIn]:
-        """Who is signed in by this number, or None."""
+        """The visitor who is signed in by this number, or None."""
 
     def abandon(self, number: Optional[str]) -> bool:
-        """Ends a sign-in; whether it was there."""
+        """Ends a sign-in. Returns whether it was there."""
 
     def names(self, user: bytes) -> Mapping[bytes, str]:
-        """What a user calls his passkeys, by their ids."""
+        """A user's names for passkeys, by their ids."""
 
     def rename(self, user: bytes, credential: bytes, name: str) -> None:
-        """Calls a passkey so. An empty name is none."""
+        """Names a passkey. An empty name removes the name."""
 
     def erase(self, user: bytes) -> Any:
-        """Ends a user's sign-ins, and forgets the names: what a site calls with `erase` of the server that keeps the passkeys."""
+        """Ends a user's sign-ins, and forgets the names. A site calls it together with `erase` of the server that keeps the passkeys."""
 
 
 class MemoryWebStore:
-    """A `WebStore` in the memory of this process, which ends with it: of a site of one process."""
+    """A `WebStore` in the memory of this process, which ends with it: for a site of one process."""
 
     looks_up = False
 
@@ -100,7 +100,8 @@ class MemoryWebStore:
 
 
 class SqlWebStore:
-    """A `WebStore` as rows in the tables of a `SqlServer`: of one that keeps the passkeys too (`looks_up`), or beside another server."""
+    """A `WebStore` as rows in the tables of a `SqlServer`: either one that keeps the passkeys too (`looks_up`), or one beside another
+    server."""
 
     def __init__(self, server: SqlServer, *, looks_up: bool = False) -> None:
         if not isinstance(server, SqlServer):
