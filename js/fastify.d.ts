@@ -1,16 +1,16 @@
-// The requests of a site with passkeys, for Fastify. It is tested over what it asks of Fastify, which stands here, and not with Fastify itself where that is not
-// installed.
+// The requests of a site with passkeys, for Fastify. If Fastify is not installed, the tests use only the interfaces
+// below, and not Fastify itself.
 import { PasskeyServer } from "./index.js";
 import { Calls, PasskeysOptions } from "./site.js";
 
-/** What is asked of a request. */
+/** What is used of a request. */
 export interface SiteRequest {
   readonly raw: { readonly headers: { readonly [name: string]: string | string[] | undefined } };
   readonly ip: string;
   readonly body?: unknown;
 }
 
-/** What is asked of an application. */
+/** What is used of an application. */
 export interface SiteApp {
   removeAllContentTypeParsers(): unknown;
   addContentTypeParser(type: "*", parser: (request: any, payload: any, done: any) => void): unknown;
@@ -21,5 +21,5 @@ export interface Passkeys extends Calls<SiteRequest> {
   (app: SiteApp): Promise<void>;
 }
 
-/** A plugin of Fastify, `app.register(passkeys(server))`, for the acts of `garvoeng/site`, which reads bodies by itself. */
+/** A plugin for Fastify, `app.register(passkeys(server))`, with the acts of `garvoeng/site`. It reads bodies itself. */
 export function passkeys(server: PasskeyServer, options?: PasskeysOptions<any>): Passkeys;

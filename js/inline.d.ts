@@ -1,4 +1,4 @@
-// The package as `garvoeng/web` has it, with the module as text: nothing is to be loaded, and no file stands beside a bundle.
+// The same as `garvoeng/web`, with the module as text: nothing has to be loaded, and a bundle needs no other file.
 export {
   AuthenticationResponseJSON, Awaitable, BadInput, Credential, CredentialMembers, EDDSA, ES256, Ids, KeepingServer, KeptCredential, KeptMembers, KeptSignIn, MAX_LIST, MemoryStore, NoMemory,
   OpenSession, OptionsOfBoth, PasskeyServer, PublicKeyCredentialCreationOptionsJSON,

@@ -1,9 +1,9 @@
-// The requests of a site with passkeys, for Koa. It is tested over what it asks of Koa, which stands here, and not with Koa itself where that is not
-// installed.
+// The requests of a site with passkeys, for Koa. If Koa is not installed, the tests use only the interfaces below,
+// and not Koa itself.
 import { PasskeyServer } from "./index.js";
 import { Calls, PasskeysOptions } from "./site.js";
 
-/** What is asked of a context. */
+/** What is used of a context. */
 export interface SiteContext {
   readonly req: { readonly headers: { readonly [name: string]: string | string[] | undefined } };
   readonly request: object;
@@ -20,6 +20,6 @@ export interface Passkeys extends Calls<SiteContext> {
   (context: SiteContext, next: () => Promise<unknown>): Promise<unknown>;
 }
 
-/** A middleware of Koa, `app.use(passkeys(server))`, for the acts of `garvoeng/site`. A body that was read before is that of
+/** A middleware for Koa, `app.use(passkeys(server))`, with the acts of `garvoeng/site`. A body that was read before is taken from
  *  `context.request.rawBody` or `body`. */
 export function passkeys(server: PasskeyServer, options?: PasskeysOptions<any>): Passkeys;

@@ -23,7 +23,7 @@ export interface GenerateRegistrationOptionsOpts {
   userName: string;
   /** 1 to 64 bytes; random ones if left out. */
   userID?: Uint8Array;
-  /** 32 random bytes, or a text of as many in UTF-8; new ones if left out. */
+  /** 32 random bytes, or a text of that many bytes in UTF-8; new ones if left out. */
   challenge?: string | Uint8Array;
   userDisplayName?: string;
   /** Milliseconds: 60,000. */
@@ -32,7 +32,7 @@ export interface GenerateRegistrationOptionsOpts {
   excludeCredentials?: readonly { id: string; transports?: readonly string[] }[];
   authenticatorSelection?: { authenticatorAttachment?: "platform" | "cross-platform"; residentKey?: UserVerificationRequirement; userVerification?: UserVerificationRequirement };
   extensions?: object;
-  /** Those of ES256, EdDSA and RS256 are offered. */
+  /** Of these, ES256, EdDSA and RS256 are offered. */
   supportedAlgorithmIDs?: readonly number[];
   preferredAuthenticatorType?: "securityKey" | "localDevice" | "remoteDevice";
 }
@@ -48,7 +48,7 @@ export interface GenerateAuthenticationOptionsOpts {
 
 interface ResponseOpts<Response> {
   response: Response;
-  /** The challenge of the options; or a function that answers whether the response's is one of yours. Accept each once. */
+  /** The challenge of the options; or a function that returns whether the response's challenge is one of yours. Accept each once. */
   expectedChallenge: string | ((challenge: string) => Awaitable<boolean>);
   expectedOrigin: string | readonly string[];
   expectedRPID: string | readonly string[];
@@ -61,7 +61,8 @@ export interface VerifyRegistrationResponseOpts extends ResponseOpts<Registratio
   /** True if left out; false for a registration that the browser made by itself. */
   requireUserPresence?: boolean;
   supportedAlgorithmIDs?: readonly number[];
-  /** What the options asked for: unless it is `none`, the attestation statement is verified, which takes `none` and packed self attestation. */
+  /** What the options asked for. Unless it is `none`, the attestation statement is verified: `none` and packed self attestation are
+   *  accepted. */
   attestationType?: "none" | "direct" | "enterprise";
   attestationSafetyNetEnforceCTSCheck?: boolean;
 }
@@ -77,7 +78,7 @@ interface ResponseInfo {
 export type VerifiedRegistrationResponse =
   | { verified: false; registrationInfo?: never }
   | { verified: true; registrationInfo: ResponseInfo & {
-      /** As it counts: `none` if no attestation was asked for. */
+      /** The effective format: `none` if no attestation was asked for. */
       fmt: "none" | "packed";
       aaguid: string;
       credential: WebAuthnCredential;
@@ -86,7 +87,8 @@ export type VerifiedRegistrationResponse =
     } };
 
 export interface VerifyAuthenticationResponseOpts extends ResponseOpts<AuthenticationResponseJSON> {
-  /** The stored passkey of the response's id. With `webauthnUserID`, its user handle in base64url, the response's has to be that. */
+  /** The stored passkey with the response's id. With `webauthnUserID`, its user handle in base64url, the response must have the same
+   *  one. */
   credential: WebAuthnCredential & { webauthnUserID?: string };
   advancedFIDOConfig?: { userVerification?: UserVerificationRequirement };
 }
@@ -97,9 +99,9 @@ export type VerifiedAuthenticationResponse =
 
 export const supportedCOSEAlgorithmIdentifiers: readonly number[];
 export function generateRegistrationOptions(options: GenerateRegistrationOptionsOpts): Promise<PublicKeyCredentialCreationOptionsJSON>;
-/** Throws `Refused` with the first step of section 7.1 that does not pass, and `BadInput`. Whether the id is registered already is the site's
- *  to look up. */
+/** Throws `Refused` with the first step of section 7.1 that the response does not pass, and `BadInput`. The site itself checks whether the
+ *  id is registered already. */
 export function verifyRegistrationResponse(options: VerifyRegistrationResponseOpts): Promise<VerifiedRegistrationResponse>;
 export function generateAuthenticationOptions(options: GenerateAuthenticationOptionsOpts): Promise<PublicKeyCredentialRequestOptionsJSON>;
-/** Throws `Refused` with the first step of section 7.2 that does not pass, and `BadInput`. Store `newCounter`. */
+/** Throws `Refused` with the first step of section 7.2 that the response does not pass, and `BadInput`. Store `newCounter`. */
 export function verifyAuthenticationResponse(options: VerifyAuthenticationResponseOpts): Promise<VerifiedAuthenticationResponse>;
