@@ -19,8 +19,8 @@ var registrationSteps = []string{
 	"OtherId",
 }
 
-// Refused says that a response does not pass a step of section 7.1 (registration) or 7.2 (sign-in) of WebAuthn, the first that it
-// does not.
+// Refused says that a response is refused. The step is the first one of section 7.1 (registration) or 7.2 (sign-in) of WebAuthn that it
+// does not pass.
 type Refused struct {
 	IsRegistration bool
 	Number         int    // of the step
@@ -43,7 +43,7 @@ func (b *BadInput) Error() string {
 	return b.Text
 }
 
-// RowDamaged says that the row of a credential is none that a site writes: the visitor can't help it.
+// RowDamaged says that the row of a credential is not one that a site writes; the visitor is not at fault.
 type RowDamaged struct {
 	ID    Bytes
 	Cause error
@@ -57,14 +57,14 @@ func (r *RowDamaged) Unwrap() error {
 	return r.Cause
 }
 
-// ErrNoMemory says that there was no memory for a call, which changed nothing.
+// ErrNoMemory says that there was no memory for a call. The call changed nothing.
 var ErrNoMemory = errors.New("out of memory")
 
 func badInput(format string, values ...any) error {
 	return &BadInput{Text: fmt.Sprintf(format, values...)}
 }
 
-// The error of an answer of the library, nil of 0.
+// The error for an answer of the library, nil for 0.
 func errorOf(isRegistration bool, answer uint32) error {
 	switch {
 	case answer == accepted:

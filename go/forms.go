@@ -7,24 +7,24 @@ import (
 	"strings"
 )
 
-// The most characters of a response's members together.
+// The greatest length of a response's members together, in characters.
 const maxResponse = 65_536
 
 func toText(value []byte) string {
 	return base64.RawURLEncoding.EncodeToString(value)
 }
 
-// The bytes of base64url without padding, whose one spelling each value has (RFC 4648, sections 3.5 and 5).
+// The bytes of canonical base64url text without padding (RFC 4648, sections 3.5 and 5).
 func fromText(text, what string) (Bytes, error) {
 	made, err := base64.RawURLEncoding.Strict().DecodeString(text)
-	// The decoder passes over ends of lines.
+	// The decoder ignores ends of lines.
 	if err != nil || strings.ContainsAny(text, "\r\n") {
 		return nil, badInput("%s is not base64url", what)
 	}
 	return made, nil
 }
 
-// The members of an object by just their names: encoding/json takes names of a struct that differ by case.
+// The members of an object by their exact names: encoding/json also takes names of a struct that differ by case.
 func objectIn(text json.RawMessage) map[string]json.RawMessage {
 	var members map[string]json.RawMessage
 	if len(bytes.TrimSpace(text)) == 0 || json.Unmarshal(text, &members) != nil {
@@ -48,7 +48,7 @@ func textIn(members map[string]json.RawMessage, name string) (string, error) {
 	return text, nil
 }
 
-// What the standard fixes of a response beside its parts.
+// Checks what the standard requires of a response besides its parts.
 func checkEnvelope(response map[string]json.RawMessage) error {
 	id, err := textIn(response, "id")
 	if err != nil {
@@ -79,8 +79,8 @@ func checkEnvelope(response map[string]json.RawMessage) error {
 	return nil
 }
 
-// rawId and these members of a RegistrationResponseJSON or an AuthenticationResponseJSON (WebAuthn Level 3, section 5.1), and the
-// members of its `response`. An optional one that is null counts as absent; members of other names are passed over.
+// rawId and these members of a RegistrationResponseJSON or an AuthenticationResponseJSON (WebAuthn Level 3, section 5.1), and the members
+// of its `response`. An optional member that is null counts as absent; members with other names are ignored.
 func partsIn(body []byte, names []string, optional ...string) (map[string]Bytes, map[string]json.RawMessage, error) {
 	response := objectIn(body)
 	members := objectIn(response["response"])
@@ -118,10 +118,10 @@ func partsIn(body []byte, names []string, optional ...string) (map[string]Bytes,
 	return parts, members, nil
 }
 
-// The most transports that are kept of a credential.
+// The greatest number of transports that are kept for a credential.
 const maxTransports = 16
 
-// The transports that a response names: what is none is left out.
+// The transports that a response names. Items that are not transports are left out.
 func transportsIn(members map[string]json.RawMessage) []string {
 	var listed []json.RawMessage
 	if json.Unmarshal(members["transports"], &listed) != nil {

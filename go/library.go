@@ -11,7 +11,7 @@ import (
 	"unsafe"
 )
 
-// The numbers of the steps of a signature, and what is no step.
+// The numbers of the steps of a signature, and of answers that are not steps.
 const (
 	accepted     = 0
 	badStatement = 13
@@ -20,13 +20,13 @@ const (
 	noMemory     = 127
 )
 
-// Memory of C that a call lends: cgo forbids pointers to Go's memory within a struct.
+// C memory that a call lends: cgo forbids pointers to Go's memory within a struct.
 type lent struct {
 	pointer unsafe.Pointer
 	room    []byte
 }
 
-// What a list of texts takes at most.
+// The most bytes that a list of texts takes.
 func sizeOf(values [][]byte) int {
 	size := 8 + len(values)*C.sizeof_passkey_bytes
 	for _, value := range values {
@@ -98,7 +98,7 @@ func keyTold(key *C.passkey_key_out) Key {
 	}
 }
 
-// What a host lends of its relying party.
+// What a host lends for its relying party.
 type party struct {
 	rpID       []byte
 	origins    [][]byte
@@ -118,10 +118,10 @@ func (l *lent) party(p *party) (of C.passkey_party) {
 	return of
 }
 
-// What a response's signature is verified with.
+// What is needed to verify a response's signature.
 type verify func(key Key, message, signature []byte) bool
 
-// Verifies the signature, if there is one to verify: what was verified, for the next call.
+// Verifies the signature, if there is one to verify. Returns what was verified, for the next call.
 func (l *lent) verified(asked *C.passkey_signature_call, messageRoom, signatureRoom int, isValid verify) (C.passkey_verified, bool, uint32) {
 	var told C.passkey_signature_out
 	message, signature := l.take(messageRoom), l.take(signatureRoom)
@@ -131,14 +131,14 @@ func (l *lent) verified(asked *C.passkey_signature_call, messageRoom, signatureR
 		return C.passkey_verified{}, false, uint32(answer)
 	}
 	message, signature = message[:told.message_size], signature[:told.signature_size]
-	// A function of the host's may keep and change what it is handed, and this memory is C's.
+	// A function of the host may keep and change its arguments, and this memory is C's.
 	if !isValid(keyTold(&told.key), append([]byte{}, message...), append([]byte{}, signature...)) {
 		return C.passkey_verified{}, false, accepted
 	}
 	return C.passkey_verified{key: l.key(keyTold(&told.key)), message: bytesOf(message), signature: bytesOf(signature)}, true, accepted
 }
 
-// What of a told key is lent again: an RSA modulus and its exponent.
+// Room for the parts of a reported key that are lent again: an RSA modulus and its exponent.
 const keyRoom = 512 + 32
 
 type assertionParts struct {
@@ -153,7 +153,7 @@ type assertionTold struct {
 	extensions                         []byte
 }
 
-// Judges a sign-in: the answer, and the outputs if it is 0.
+// Verifies a sign-in. Returns the answer, and the outputs if it is 0.
 func judgeAssertion(p *party, session *SignInSession, credential *Credential, response *assertionParts, isValid verify) (uint32, assertionTold, error) {
 	size := p.size() + 2*len(response.authData) + 2*len(response.signature) + len(response.id) + len(response.user) + len(response.clientData) + keyRoom + 64
 	if session != nil {
@@ -300,15 +300,15 @@ func lists(values []Bytes) [][]byte {
 	return made
 }
 
-// The text of an answer.
+// The text for an answer.
 func textOf(isRegistration bool, answer uint32) string {
 	var room [128]byte
 	size := C.passkey_refusal_text(C.uint32_t(flag(isRegistration)), C.uint32_t(answer), (*C.uint8_t)(unsafe.Pointer(&room[0])), C.size_t(len(room)))
 	return string(room[:size])
 }
 
-// KeyFromCOSE gives the key whose COSE_Key bytes (RFC 9052, section 7) other libraries store. It answers *BadInput where they are not those
-// of an ES256, EdDSA or RS256 key in canonical CBOR.
+// KeyFromCOSE returns the key in COSE_Key bytes (RFC 9052, section 7), which other libraries store. It returns *BadInput if they are not an
+// ES256, EdDSA or RS256 key in canonical CBOR.
 func KeyFromCOSE(cose []byte) (Key, error) {
 	var out C.passkey_key_out
 	l, err := lend(len(cose))
@@ -323,7 +323,7 @@ func KeyFromCOSE(cose []byte) (Key, error) {
 	return keyTold(&out), nil
 }
 
-// Version is the library's: major * 10,000 + minor * 100 + patch.
+// Version is the library's version: major * 10,000 + minor * 100 + patch.
 func Version() int {
 	return int(C.passkey_version())
 }

@@ -7,7 +7,7 @@ import (
 )
 
 const (
-	// MaxList is the most credential ids of a list: browsers take no longer one.
+	// MaxList is the greatest number of credential ids in a list: browsers accept no longer one.
 	MaxList = 64
 	maxUser = 64
 	maxID   = 1023
@@ -27,7 +27,7 @@ func isTransport(text string) bool {
 	return transport.MatchString(text)
 }
 
-// A domain as browsers write it: 1 to 253 characters, and no IP address (WebAuthn Level 2, section 4).
+// A domain as browsers write it: 1 to 253 characters, and not an IP address (WebAuthn Level 2, section 4).
 func checkRPID(rpID string) error {
 	if len(rpID) > 253 || !domain.MatchString(rpID) {
 		return badInput("the rp id is %q: write a domain in lower case, without a scheme and a port, as \"example.com\"", short(rpID))
@@ -38,7 +38,7 @@ func checkRPID(rpID string) error {
 	return nil
 }
 
-// The host of an origin as browsers write it (RFC 6454, section 6.2); empty of an app's.
+// The host of an origin as browsers write it (RFC 6454, section 6.2); empty for an app's.
 func hostOf(origin string) (string, error) {
 	if android.MatchString(origin) {
 		return "", nil
@@ -59,7 +59,7 @@ func hostOf(origin string) (string, error) {
 	return found[2], nil
 }
 
-// Of a relying party with web origins, the rp id is the host of one, or what it ends in.
+// If a relying party has web origins, the host of at least one is the rp id or ends in it.
 func checkParty(rpID string, origins, topOrigins []string) error {
 	if err := checkRPID(rpID); err != nil {
 		return err

@@ -2,7 +2,7 @@ package garvoeng
 
 import "time"
 
-// Profile says which responses a relying party takes.
+// Profile says which responses a relying party accepts.
 type Profile int
 
 const (
@@ -24,7 +24,7 @@ type Parameter struct {
 	Alg  Algorithm `json:"alg"`
 }
 
-// CreationOptions are what a page hands to PublicKeyCredential.parseCreationOptionsFromJSON (WebAuthn Level 3, section 5.1.9).
+// CreationOptions are what a page passes to PublicKeyCredential.parseCreationOptionsFromJSON (WebAuthn Level 3, section 5.1.9).
 type CreationOptions struct {
 	RP struct {
 		ID   string `json:"id"`
@@ -50,7 +50,7 @@ type CreationOptions struct {
 	Extensions  map[string]any `json:"extensions,omitempty"`
 }
 
-// RequestOptions are what a page hands to PublicKeyCredential.parseRequestOptionsFromJSON (WebAuthn Level 3, section 5.1.10).
+// RequestOptions are what a page passes to PublicKeyCredential.parseRequestOptionsFromJSON (WebAuthn Level 3, section 5.1.10).
 type RequestOptions struct {
 	Challenge        Bytes          `json:"challenge"`
 	RPID             string         `json:"rpId"`
@@ -61,7 +61,7 @@ type RequestOptions struct {
 	Extensions       map[string]any `json:"extensions,omitempty"`
 }
 
-// RegisterOptions are what may be asked of a registration; the zero value is what most sites ask.
+// RegisterOptions are the options of a registration; the zero value suits most sites.
 type RegisterOptions struct {
 	DisplayName             string       // the user name, where it is empty
 	Exclude                 []Credential // those of the account, at most 64
@@ -76,7 +76,7 @@ type RegisterOptions struct {
 	Extensions              map[string]any
 }
 
-// AuthenticateOptions are what may be asked of a sign-in; the zero value is what most sites ask.
+// AuthenticateOptions are the options of a sign-in; the zero value suits most sites.
 type AuthenticateOptions struct {
 	User             []byte       // the user handle of the account, where it is known beforehand
 	Allow            []Credential // the credentials that may answer, at most 64; any, where it is empty
@@ -93,7 +93,7 @@ func or(value, usual string) string {
 	return value
 }
 
-// A timeout in milliseconds, of which 0 is none, and hints.
+// A timeout in milliseconds, where 0 means none, and hints.
 func checkMore(timeout time.Duration, hints []string) (int64, error) {
 	if milliseconds := timeout.Milliseconds(); timeout != 0 && (milliseconds < 1 || milliseconds > 0xffffffff) {
 		return 0, badInput("timeout is %v: write 1 ms to 4,294,967,295 ms, or 0 for none", timeout)

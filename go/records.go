@@ -4,10 +4,10 @@ import (
 	"encoding/json"
 )
 
-// Bytes are written to JSON as base64url without padding (RFC 4648, section 5), and read from its one spelling alone.
+// Bytes are written to JSON as base64url without padding (RFC 4648, section 5), and read only in canonical form.
 type Bytes []byte
 
-// MarshalJSON writes base64url; of nil null.
+// MarshalJSON writes base64url, or null for nil.
 func (b Bytes) MarshalJSON() ([]byte, error) {
 	if b == nil {
 		return []byte("null"), nil
@@ -49,7 +49,7 @@ type Key struct {
 	Y         Bytes     `json:"y"`
 }
 
-// Credential is a registered credential, as a site stores it.
+// Credential is a registered credential in the form that a site stores.
 type Credential struct {
 	ID   Bytes `json:"id"`   // 1 to 1,023 bytes
 	User Bytes `json:"user"` // the user handle of its account, 1 to 64 bytes
@@ -60,7 +60,7 @@ type Credential struct {
 	Transports []string `json:"transports,omitempty"`
 }
 
-// RegistrationSession is what a registration that has begun expects. It answers one response: the site deletes it then.
+// RegistrationSession is what a registration that has begun expects. It accepts one response; then the site deletes it.
 type RegistrationSession struct {
 	Challenge        Bytes       `json:"challenge"`
 	User             Bytes       `json:"user"`
@@ -70,7 +70,7 @@ type RegistrationSession struct {
 	Attestation      bool        `json:"attestation"`
 }
 
-// UnmarshalJSON reads a session. One of an earlier version without `attestation` counts as one that asked for it.
+// UnmarshalJSON reads a session. A session of an earlier version without `attestation` counts as one that asked for it.
 func (s *RegistrationSession) UnmarshalJSON(text []byte) error {
 	type members RegistrationSession
 	read := members{Attestation: true}
@@ -81,7 +81,7 @@ func (s *RegistrationSession) UnmarshalJSON(text []byte) error {
 	return nil
 }
 
-// SignInSession is what a sign-in that has begun expects. It answers one response: the site deletes it then.
+// SignInSession is what a sign-in that has begun expects. It accepts one response; then the site deletes it.
 type SignInSession struct {
 	Challenge        Bytes   `json:"challenge"`
 	User             Bytes   `json:"user"`  // nil where the account is not known beforehand
@@ -89,7 +89,7 @@ type SignInSession struct {
 	UserVerification bool    `json:"user_verification"`
 }
 
-// MarshalJSON writes a session; a list of nil as an empty one.
+// MarshalJSON writes a session; a nil list is written as an empty one.
 func (s SignInSession) MarshalJSON() ([]byte, error) {
 	type members SignInSession
 	if s.Allow == nil {
@@ -112,7 +112,7 @@ func (s *SignInSession) UnmarshalJSON(text []byte) error {
 	return nil
 }
 
-// Reads an object that has these members by just these names: encoding/json takes names that differ by case.
+// Reads an object whose members have exactly these names: encoding/json also takes names that differ by case.
 func unmarshal(text []byte, into any, names ...string) error {
 	var members map[string]json.RawMessage
 	if err := json.Unmarshal(text, &members); err != nil || members == nil {
@@ -126,7 +126,7 @@ func unmarshal(text []byte, into any, names ...string) error {
 	return json.Unmarshal(text, into)
 }
 
-// Registered is what a registration that is accepted says. The site stores Credential.
+// Registered is the result of an accepted registration. The site stores Credential.
 type Registered struct {
 	Credential   Credential
 	AAGUID       Bytes  // the kind of the authenticator, by its own word
@@ -137,7 +137,7 @@ type Registered struct {
 	Extensions   Bytes // the map of extensions in CBOR, or empty
 }
 
-// SignedIn is what a sign-in that is accepted says. The site stores Credential in place of Before.
+// SignedIn is the result of an accepted sign-in. The site stores Credential in place of Before.
 type SignedIn struct {
 	Credential   Credential // with the counter that was received
 	Before       Credential // as it was looked up, to be compared with by the write

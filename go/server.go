@@ -1,7 +1,7 @@
 // Package garvoeng is a passkey relying party (WebAuthn Level 2 and 3, sections 7.1 and 7.2) whose steps are proved code, called
 // by cgo. Signatures are verified by Go's own crypto packages.
 //
-// Server keeps nothing: sessions and credentials are the site's. docs/OPERATING.md has the rules for a site's rows.
+// Server keeps nothing: the site stores the sessions and credentials. docs/OPERATING.md has the rules for a site's rows.
 package garvoeng
 
 import (
@@ -10,18 +10,18 @@ import (
 	"unicode/utf8"
 )
 
-// Config has a relying party's settings beside its rp id and its origins; the zero value is what most sites want.
+// Config has a relying party's settings besides its rp id and its origins; the zero value suits most sites.
 type Config struct {
 	RPName     string   // shown by authenticators; the rp id, where it is empty
 	Profile    *Profile // Level3, where it is nil
 	RefuseNone bool     // registrations without attestation are refused
 	RefuseSelf bool     // registrations by self attestation are refused
 	TopOrigins []string // the pages of other sites that may frame the site's own; in Level3 alone looked at
-	// Verify says whether a signature is valid; IsValid, where it is nil.
+	// Verify says whether a signature is valid; if it is nil, IsValid is used.
 	Verify func(key Key, message, signature []byte) bool
 }
 
-// Server is a relying party. Its calls may be made from several goroutines at once.
+// Server is a relying party. Several goroutines may call it at once.
 type Server struct {
 	rpID, rpName           string
 	party                  party
@@ -29,8 +29,8 @@ type Server struct {
 	verify                 verify
 }
 
-// NewServer makes a relying party of a domain, as "example.com", and the origins of its pages, as "https://example.com". It answers
-// *BadInput where a value is out of its limits.
+// NewServer makes a relying party for a domain, such as "example.com", and the origins of its pages, such as "https://example.com". It
+// returns *BadInput if a value is out of its limits.
 func NewServer(rpID string, origins []string, config Config) (*Server, error) {
 	if err := checkParty(rpID, origins, config.TopOrigins); err != nil {
 		return nil, err
@@ -71,7 +71,7 @@ func challenge() (Bytes, error) {
 	return made, err
 }
 
-// RegisterBegin begins a registration for an account: options for the page, and the session, which the site keeps, once.
+// RegisterBegin begins a registration for an account. It returns the options for the page, and the session, which the site keeps, once.
 func (s *Server) RegisterBegin(user []byte, userName string, how RegisterOptions) (*CreationOptions, *RegistrationSession, error) {
 	algorithms := append([]Algorithm{}, how.Algorithms...)
 	if len(algorithms) == 0 {
@@ -112,8 +112,8 @@ func (s *Server) RegisterBegin(user []byte, userName string, how RegisterOptions
 	}, nil
 }
 
-// RegisterComplete judges the response of a page, its JSON, in a session, nil where none is open. isRegistered says whether any account has
-// the credential of this id, retired or not. It answers *Refused, *BadInput, ErrNoMemory, or what isRegistered does.
+// RegisterComplete verifies the response of a page, its JSON, in a session, which is nil if none is open. isRegistered says whether any
+// account has the credential with this id, retired or not. It returns *Refused, *BadInput, ErrNoMemory, or the error of isRegistered.
 func (s *Server) RegisterComplete(session *RegistrationSession, response []byte, isRegistered func(id []byte) (bool, error)) (*Registered, error) {
 	parts, members, err := partsIn(response, []string{"clientDataJSON", "attestationObject"})
 	if err != nil {
@@ -148,7 +148,7 @@ func (s *Server) registered(session *RegistrationSession, parts *registrationPar
 	}, nil
 }
 
-// AuthenticateBegin begins a sign-in: options for the page, and the session, which the site keeps, once.
+// AuthenticateBegin begins a sign-in. It returns the options for the page, and the session, which the site keeps, once.
 func (s *Server) AuthenticateBegin(how AuthenticateOptions) (*RequestOptions, *SignInSession, error) {
 	made := &RequestOptions{
 		RPID: s.rpID, AllowCredentials: descriptors(how.Allow), UserVerification: or(how.UserVerification, "preferred"), Hints: how.Hints,
@@ -181,8 +181,9 @@ func (s *Server) AuthenticateBegin(how AuthenticateOptions) (*RequestOptions, *S
 	return made, session, nil
 }
 
-// AuthenticateComplete judges the response of a page, its JSON, in a session, nil where none is open. credential looks the credential of
-// an id up, nil where there is none. It answers *Refused, *BadInput, *RowDamaged, ErrNoMemory, or what credential does.
+// AuthenticateComplete verifies the response of a page, its JSON, in a session, which is nil if none is open. credential looks up the
+// credential with an id, and returns nil if there is none. It returns *Refused, *BadInput, *RowDamaged, ErrNoMemory, or the error of
+// credential.
 func (s *Server) AuthenticateComplete(session *SignInSession, response []byte, credential func(id []byte) (*Credential, error)) (*SignedIn, error) {
 	parts, _, err := partsIn(response, []string{"clientDataJSON", "authenticatorData", "signature"}, "userHandle")
 	if err != nil {
@@ -207,7 +208,7 @@ func (s *Server) AuthenticateComplete(session *SignInSession, response []byte, c
 func (s *Server) signedIn(session *SignInSession, stored *Credential, parts *assertionParts) (*SignedIn, error) {
 	var before *Credential
 	if stored != nil {
-		// The answer is about the row that was judged, even if the host's own changes meanwhile.
+		// The answer is for the row that was verified, even if the host's own row changes meanwhile.
 		copied := *stored
 		before = &copied
 	}

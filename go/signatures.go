@@ -10,7 +10,7 @@ import (
 	"math/big"
 )
 
-// IsValid verifies a signature by Go's own crypto packages. A key that is no point of its curve verifies nothing.
+// IsValid verifies a signature with Go's own crypto packages. If the key is not a point of its curve, no signature is valid.
 func IsValid(key Key, message, signature []byte) bool {
 	hash := sha256.Sum256(message)
 	switch key.Algorithm {

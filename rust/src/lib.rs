@@ -1,7 +1,8 @@
 //! A passkey relying party (WebAuthn Level 2 and 3, sections 7.1 and 7.2) whose steps are proved code, called by its C interface.
 //!
-//! A [`RelyingParty`] keeps nothing: sessions and credentials are the site's, and so is the mathematics of signatures, a [`Verifier`].
-//! What was verified is handed to the library here, and nowhere else: no call of a site can say that a signature is valid.
+//! A [`RelyingParty`] keeps nothing: the site stores the sessions and credentials, and provides the mathematics of signatures, a
+//! [`Verifier`].
+//! What was verified is passed to the library here, and nowhere else: no call of a site can claim that a signature is valid.
 //!
 //! ```compile_fail
 //! let verified = garvoeng::Verified { key: todo!(), message: Vec::new(), signature: Vec::new() };
@@ -25,35 +26,35 @@ pub enum Algorithm {
     Rs256 = -257,
 }
 
-/// Which responses a relying party takes.
+/// Which responses a relying party accepts.
 #[derive(Clone, Copy, Debug, PartialEq, Eq)]
 pub enum Profile {
     /// No extension data, and ids of 1 to 64 bytes.
     Strict = 0,
-    /// These too, and ids of up to 1,023 bytes.
+    /// Also extension data, and ids of up to 1,023 bytes.
     Open = 1,
-    /// As `Open`, by the steps of WebAuthn Level 3.
+    /// Like `Open`, by the steps of WebAuthn Level 3.
     Level3 = 2,
 }
 
-/// A public key: its coordinates, of RSA its modulus and its exponent, big-endian.
+/// A public key, big-endian: its coordinates; for RSA its modulus and its exponent.
 #[derive(Clone, Debug, PartialEq, Eq)]
 pub struct Key {
     /// Its scheme.
     pub algorithm: Algorithm,
-    /// 32 bytes; of RSA 256, 384 or 512.
+    /// 32 bytes; for RSA 256, 384 or 512.
     pub x: Vec<u8>,
-    /// 32 bytes of ES256, none of EdDSA; of RSA 1 to 4.
+    /// 32 bytes for ES256, none for EdDSA; for RSA 1 to 4.
     pub y: Vec<u8>,
 }
 
 /// The mathematics of signatures.
 pub trait Verifier {
-    /// Whether a signature of a message is valid by a key. A key that is no point of its curve verifies nothing.
+    /// Whether a signature of a message is valid under a key. If the key is not a point of its curve, no signature is valid.
     fn is_valid(&self, key: &Key, message: &[u8], signature: &[u8]) -> bool;
 }
 
-/// A registered credential, as a site stores it.
+/// A registered credential in the form that a site stores.
 #[derive(Clone, Debug, PartialEq, Eq)]
 pub struct Credential {
     /// 1 to 1,023 bytes.
@@ -62,45 +63,45 @@ pub struct Credential {
     pub user: Vec<u8>,
     /// Its public key.
     pub key: Key,
-    /// The signature counter last received.
+    /// The signature counter received last.
     pub sign_count: u32,
-    /// For backup; `None` where it is not known.
+    /// For backup; `None` if it is not known.
     pub eligible: Option<bool>,
-    /// It signs in no more.
+    /// It can no longer sign in.
     pub retired: bool,
 }
 
-/// What a registration that has begun expects. It answers one response: the site deletes it then.
+/// What a registration that has begun expects. It accepts one response; then the site deletes it.
 #[derive(Clone, Debug, PartialEq, Eq)]
 pub struct RegistrationSession {
     /// 32 bytes that no other session has.
     pub challenge: [u8; 32],
     /// The user handle of the account.
     pub user: Vec<u8>,
-    /// User verification is required.
+    /// Whether user verification is required.
     pub user_verification: bool,
     /// The algorithms that were offered.
     pub algorithms: Vec<Algorithm>,
-    /// It was begun as a conditional create.
+    /// Whether it was begun as a conditional create.
     pub conditional: bool,
-    /// An attestation was asked for.
+    /// Whether an attestation was asked for.
     pub attestation: bool,
 }
 
-/// What a sign-in that has begun expects. It answers one response: the site deletes it then.
+/// What a sign-in that has begun expects. It accepts one response; then the site deletes it.
 #[derive(Clone, Debug, PartialEq, Eq)]
 pub struct SignInSession {
     /// 32 bytes that no other session has.
     pub challenge: [u8; 32],
-    /// The user handle of the account, where it is known beforehand.
+    /// The user handle of the account, if it is known beforehand.
     pub user: Option<Vec<u8>>,
-    /// The ids of the credentials that may answer; none for any.
+    /// The ids of the credentials that may answer; empty for any.
     pub allow: Vec<Vec<u8>>,
-    /// User verification is required.
+    /// Whether user verification is required.
     pub user_verification: bool,
 }
 
-/// A client's answer to a registration.
+/// A client's response to a registration.
 #[derive(Clone, Copy, Debug)]
 pub struct RegistrationResponse<'a> {
     /// `rawId`.
@@ -111,7 +112,7 @@ pub struct RegistrationResponse<'a> {
     pub client_data: &'a [u8],
 }
 
-/// A client's answer to a sign-in.
+/// A client's response to a sign-in.
 #[derive(Clone, Copy, Debug)]
 pub struct AssertionResponse<'a> {
     /// `rawId`.
@@ -126,17 +127,17 @@ pub struct AssertionResponse<'a> {
     pub client_data: &'a [u8],
 }
 
-/// Why a response is refused: the number of a step, of a limit (100 and up), or of out of memory (127), as c/passkey.h has them.
+/// Why a response is refused: the number of a step, of a limit (100 and up), or of out of memory (127), as in c/passkey.h.
 #[derive(Clone, Copy, Debug, PartialEq, Eq)]
 pub struct Refusal {
-    /// Of a registration, or of a sign-in.
+    /// Whether it is of a registration, and not of a sign-in.
     pub is_registration: bool,
     /// The answer of the library, never 0.
     pub number: u32,
 }
 
 impl Refusal {
-    /// What it says, for a log.
+    /// The text, for a log.
     pub fn text(&self) -> String {
         let mut room = [0; 128];
         // SAFETY: the room has the given size.
@@ -153,7 +154,7 @@ impl fmt::Display for Refusal {
 
 impl std::error::Error for Refusal {}
 
-/// What an accepted sign-in says. The site stores `credential` in place of the row that it looked up.
+/// The result of an accepted sign-in. The site stores `credential` in place of the row that it looked up.
 #[derive(Clone, Debug, PartialEq, Eq)]
 pub struct SignedIn {
     /// With the counter that was received.
@@ -177,12 +178,12 @@ pub enum Format {
     PackedSelf,
 }
 
-/// What an accepted registration says. The site stores `credential`.
+/// The result of an accepted registration. The site stores `credential`.
 #[derive(Clone, Debug, PartialEq, Eq)]
 pub struct Registered {
     /// The new one.
     pub credential: Credential,
-    /// The kind of the authenticator, by its own word.
+    /// The model of the authenticator, as it reports it.
     pub aaguid: [u8; 16],
     /// How it is attested.
     pub format: Format,
@@ -196,20 +197,20 @@ pub struct Registered {
     pub extensions: Vec<u8>,
 }
 
-/// A relying party. Its calls may be made from several threads at once.
+/// A relying party. Several threads may call it at once.
 #[derive(Clone, Debug)]
 pub struct RelyingParty {
-    /// Its domain, as `example.com`.
+    /// Its domain, such as `example.com`.
     pub rp_id: String,
-    /// The origins of its pages, as `https://example.com`; compared as texts.
+    /// The origins of its pages, such as `https://example.com`; compared as texts.
     pub origins: Vec<String>,
-    /// The pages of other sites that may frame its own; in [`Profile::Level3`] alone looked at.
+    /// The pages of other sites that may frame its own; used only in [`Profile::Level3`].
     pub top_origins: Vec<String>,
-    /// Which responses it takes.
+    /// Which responses it accepts.
     pub profile: Profile,
-    /// Registrations without attestation are accepted.
+    /// Whether registrations without attestation are accepted.
     pub accept_none: bool,
-    /// Registrations by self attestation are accepted.
+    /// Whether registrations with self attestation are accepted.
     pub accept_self: bool,
 }
 
@@ -234,7 +235,7 @@ fn last(bytes: &[u8], size: usize) -> Vec<u8> {
     bytes[bytes.len().saturating_sub(size)..].to_vec()
 }
 
-/// A key, a message and a signature that a [`Verifier`] found to be valid: made by `verified` alone.
+/// A key, a message and a signature that a [`Verifier`] found to be valid; only `verified` makes one.
 struct Verified {
     key: Key,
     message: Vec<u8>,
@@ -247,7 +248,7 @@ impl Verified {
     }
 }
 
-/// Has the signature of a response verified, where there is one; the library's answer where it can't tell which.
+/// Has the signature of a response verified, if there is one. Returns the library's answer if it can't say which.
 fn verified(call: &library::SignatureCall, message_room: usize, signature_room: usize, verifier: &impl Verifier) -> Result<Option<Verified>, u32> {
     let (mut message, mut signature) = (vec![0; message_room], vec![0; signature_room]);
     let mut out = library::SignatureOut::NONE;
@@ -268,7 +269,7 @@ fn verified(call: &library::SignatureCall, message_room: usize, signature_room: 
 }
 
 impl RelyingParty {
-    /// One of the profile `Level3`, which accepts registrations without attestation and by self attestation.
+    /// One with the profile `Level3`, which accepts registrations without attestation and with self attestation.
     pub fn new(rp_id: &str, origins: &[&str]) -> RelyingParty {
         RelyingParty {
             rp_id: rp_id.to_string(),
@@ -291,8 +292,8 @@ impl RelyingParty {
         }
     }
 
-    /// Judges a sign-in (section 7.2) in a session, `None` where none is open, of the credential that was found for the response's id,
-    /// `None` where there is none: what it says, or the first step that it does not pass.
+    /// Verifies a sign-in (section 7.2) in a session, `None` if none is open, for the credential that was found for the response's id,
+    /// `None` if there is none. Returns the result, or the first step that it does not pass.
     pub fn verify_assertion(
         &self,
         session: Option<&SignInSession>,
@@ -370,8 +371,8 @@ impl RelyingParty {
         }
     }
 
-    /// Judges a registration (section 7.1) in a session, `None` where none is open. `is_free`: the site looked `raw_id` up, and no credential
-    /// has it, retired or not; `is_full`: it has no room for another.
+    /// Verifies a registration (section 7.1) in a session, `None` if none is open. `is_free`: the site looked `raw_id` up, and no
+    /// credential has it, retired or not; `is_full`: it has no room for another.
     pub fn verify_registration(
         &self,
         session: Option<&RegistrationSession>,
@@ -449,7 +450,7 @@ impl RelyingParty {
     }
 }
 
-/// A challenge: the session's number, and 24 random bytes of the site's.
+/// A challenge, from the session's number and 24 random bytes of the site's.
 pub fn challenge(session: u64, words: &[u8; 24]) -> [u8; 32] {
     let mut made = [0; 32];
     // SAFETY: the sizes are those of the arrays; with them it is written.
@@ -457,7 +458,7 @@ pub fn challenge(session: u64, words: &[u8; 24]) -> [u8; 32] {
     made
 }
 
-/// A challenge in base64url, as options have it.
+/// A challenge in base64url, as in the options.
 pub fn challenge_text(challenge: &[u8; 32]) -> String {
     let mut text = [0; 43];
     // SAFETY: as above.
@@ -465,7 +466,7 @@ pub fn challenge_text(challenge: &[u8; 32]) -> String {
     String::from_utf8_lossy(&text).into_owned()
 }
 
-/// The key whose COSE_Key bytes (RFC 9052, section 7) these are, as other libraries store them, in canonical CBOR.
+/// The key in COSE_Key bytes (RFC 9052, section 7), as other libraries store them, in canonical CBOR.
 pub fn key_from_cose(bytes: &[u8]) -> Option<Key> {
     let mut out = library::KeyOut::NONE;
     // SAFETY: the size is that of the bytes.
@@ -473,7 +474,7 @@ pub fn key_from_cose(bytes: &[u8]) -> Option<Key> {
     is_told.then(|| told_key(&out)).flatten()
 }
 
-/// The COSE_Key bytes of a key; `None` where it is out of its limits.
+/// The COSE_Key bytes of a key; `None` if it is out of its limits.
 pub fn key_to_cose(key: &Key) -> Option<Vec<u8>> {
     let mut room = vec![0; key.x.len() + key.y.len() + 32];
     // SAFETY: the room has the given size, and the key is lent for the call.
