@@ -1,5 +1,5 @@
-// The page's side: W3C's options in JSON in, W3C's response in JSON out (WebAuthn Level 3, section 5.1), also where the browser
-// has no JSON calls. It imports nothing, so that a site may serve this one file.
+// The page's side: takes W3C's options in JSON, and returns W3C's response in JSON (WebAuthn Level 3, section 5.1), also if the browser has
+// no JSON calls. It imports nothing, so that a site can serve this one file.
 
 function bytesOf(text) {
   return Uint8Array.from(atob(text.replace(/-/g, "+").replace(/_/g, "/")), (letter) => letter.charCodeAt(0));

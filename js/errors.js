@@ -1,6 +1,6 @@
 // Why a call is refused.
 
-/** Gives a class a mark, by which `instanceof` tells its values of each copy of this package: ES modules and CommonJS have one each. */
+/** Marks a class, so that `instanceof` recognizes its values from each copy of this package: ES modules and CommonJS have one each. */
 export function marked(kind, name) {
   const mark = Symbol.for(`garvoeng.${name}`);
   Object.defineProperty(kind.prototype, mark, { value: true });
@@ -23,8 +23,8 @@ export const REGISTRATION_STEPS = Object.freeze([
   "OtherId",
 ]);
 
-/** A response is refused at a step of section 7.1 (registration) or 7.2 (sign-in) of WebAuthn, the first that it does not
- *  pass. A step that has no name here is named as its number, as `G20`. */
+/** A response is refused. The step is the first one of section 7.1 (registration) or 7.2 (sign-in) of WebAuthn that it does not pass. A
+ *  step without a name here is named by its number, such as `G20`. */
 export class Refused extends Error {
   constructor(isRegistration, number, text) {
     const name = `${isRegistration ? "G" : "W"}${number}`, step = (isRegistration ? REGISTRATION_STEPS : SIGN_IN_STEPS)[number - 1] ?? name;
@@ -39,7 +39,7 @@ export class Refused extends Error {
 }
 marked(Refused, "Refused");
 
-/** A value is out of its limits: of the site's own, or no response in the form of JSON. */
+/** A value is out of its limits: one of the site's own, or a response that is not in the form of JSON. */
 export class BadInput extends Error {
   constructor(text, number = 0) {
     super(text);
@@ -51,7 +51,7 @@ export class BadInput extends Error {
 }
 marked(BadInput, "BadInput");
 
-/** Memory ran out. The next call finds all of it again. */
+/** Memory ran out. All of it is available again to the next call. */
 export class NoMemory extends Error {
   constructor() {
     super("out of memory");
@@ -62,8 +62,8 @@ export class NoMemory extends Error {
 }
 marked(NoMemory, "NoMemory");
 
-/** The program or the database could not be reached, ended before it answered, or failed: what was asked is done or is not. The
- *  next call tries anew. */
+/** The program or the database could not be reached, ended before it answered, or failed: the operation may or may not be done. The next
+ *  call tries again. */
 export class StoreFailed extends Error {
   constructor(text, options) {
     super(text, options);
@@ -73,7 +73,7 @@ export class StoreFailed extends Error {
 }
 marked(StoreFailed, "StoreFailed");
 
-/** The row of a credential is not one that a site writes, and the visitor can't help it: see to the row of this id. */
+/** The row of a credential is not one that a site writes, and the visitor is not at fault: check the row with this id. */
 export class RowDamaged extends Error {
   constructor(id, text, options) {
     super(text, options);
@@ -84,7 +84,7 @@ export class RowDamaged extends Error {
 }
 marked(RowDamaged, "RowDamaged");
 
-/** The row of an open session is not one that a site writes: see to the row of this session. */
+/** The row of an open session is not one that a site writes: check the row of this session. */
 export class SessionDamaged extends Error {
   constructor(session, text, options) {
     super(text, options);
@@ -95,7 +95,7 @@ export class SessionDamaged extends Error {
 }
 marked(SessionDamaged, "SessionDamaged");
 
-/** What `read` makes of a session's row. Who has the whole number has what the visitor has, so a text has its front. */
+/** The result of `read` for a session's row. Whoever has the whole number could act as the visitor, so errors show only its front. */
 export function ofSession(number, read) {
   try {
     return read();
@@ -105,7 +105,7 @@ export function ofSession(number, read) {
   }
 }
 
-/** Hands a value to the host's logger. What the logger throws is nobody's to catch, and is passed over. */
+/** Passes a value to the host's logger. Nobody can catch an error of the logger, so it is ignored. */
 export function logTo(logger, value) {
   try {
     Promise.resolve(logger(value)).catch(() => {});

@@ -3,7 +3,7 @@ import { webcrypto } from "node:crypto";
 import { Core, callsOver } from "./site_core.js";
 import { askedOf, eachHeader } from "./site_node.js";
 
-/** What answers the requests of pages, for `app.register`. */
+/** Answers the requests of pages, for `app.register`. */
 export function passkeys(server, options) {
   const core = new Core(webcrypto, server, options), asked = (request) => askedOf(request.raw, { native: request, host: request, address: request.ip });
 

@@ -1,12 +1,11 @@
-// The forms of JSON that pages and sites exchange (WebAuthn Level 3, section 5.1): each value of bytes in base64url without
-// padding.
+// The forms of JSON that pages and sites exchange (WebAuthn Level 3, section 5.1). All bytes are in base64url without padding.
 import { BadInput } from "./errors.js";
 import { isBytes, memberOf, ownOf, shown } from "./limits.js";
 
-/** The most characters of a response's members together. */
+/** The greatest length of a response's members together, in characters. */
 export const MAX_RESPONSE = 65_536;
 
-/** The most characters of the text of a session of `StoredServer`. */
+/** The longest text of a session of `StoredServer`, in characters. */
 const MAX_SESSION = 2_875;
 
 export const REGISTRATION_MEMBERS = ["clientDataJSON", "attestationObject"];
@@ -41,7 +40,7 @@ function codesOf(value) {
   return codes;
 }
 
-/** Base64url without padding. Throws `BadInput` where the value is not a Uint8Array. */
+/** Base64url without padding. Throws `BadInput` if the value is not a Uint8Array. */
 export function toText(value) {
   if (!isBytes(value)) throw new BadInput(`toText takes a Uint8Array, and not ${shown(value)}: write new Uint8Array(..) of an ArrayBuffer`);
   const length = lengthOf.call(value);
@@ -76,8 +75,7 @@ function readInto(value, made, text) {
   return wrong <= 63;
 }
 
-/** The bytes of base64url without padding, whose one spelling each value has (RFC 4648, sections 3.5 and 5). Throws
- *  `BadInput`. */
+/** The bytes of canonical base64url text without padding (RFC 4648, sections 3.5 and 5). Throws `BadInput`. */
 export function fromText(text, what = "the text") {
   if (typeof text !== "string") throw new BadInput(`${what} is not a text`);
   const value = new Uint8Array(sizeOf(text));
@@ -85,7 +83,7 @@ export function fromText(text, what = "the text") {
   return value;
 }
 
-/** The text of a session: of what no begin gave none, which is an unknown session to the program. */
+/** The text of a session. A text that is not a session's becomes empty, which is an unknown session to the program. */
 export function sealed(session) {
   if (session === null || session.length > MAX_SESSION) return "";
   return readInto(new Uint8Array(sizeOf(session)), 0, session) ? session : "";
@@ -112,8 +110,8 @@ function checkEnvelope(response) {
     throw new BadInput("authenticatorAttachment is not a text");
 }
 
-/** `rawId` and the members of these names of a RegistrationResponseJSON or an AuthenticationResponseJSON, as texts. An optional
- *  one that is null counts as absent; members of other names are passed over. Throws `BadInput`. */
+/** `rawId` and the members with these names of a RegistrationResponseJSON or an AuthenticationResponseJSON, as texts. An optional member
+ *  that is null counts as absent; members with other names are ignored. Throws `BadInput`. */
 export function textsIn(response, names, optional = []) {
   const parts = isObject(response) ? memberOf(response, "response") : undefined;
   if (!isObject(parts)) throw new BadInput("response is missing");
@@ -127,7 +125,7 @@ export function textsIn(response, names, optional = []) {
   return texts;
 }
 
-/** The same, as bytes, of which all lie in one buffer: to make one for each takes longer than to read it. */
+/** The same as bytes, all in one buffer: making one for each takes longer than reading it. */
 export function bytesIn(response, names, optional) {
   const parts = textsIn(response, names, optional);
   let size = 0, at = 0;
@@ -142,7 +140,7 @@ export function bytesIn(response, names, optional) {
   return parts;
 }
 
-/** The same, as a response of these members alone, each of which is base64url. */
+/** The same as a response with these members alone, each of which is base64url. */
 export function handedOn(response, names, optional) {
   const { rawId, ...parts } = textsIn(response, names, optional);
   fromText(rawId, "rawId");
@@ -150,7 +148,7 @@ export function handedOn(response, names, optional) {
   return { id: rawId, rawId, type: "public-key", response: parts };
 }
 
-/** The transports that a response tells, whatever they are. */
+/** The transports in a response, whatever they are. */
 export function transportsOf(response) {
   return memberOf(response.response, "transports");
 }

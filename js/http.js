@@ -15,7 +15,7 @@ function send(response, { status, headers, body }) {
   response.end(body);
 }
 
-/** What answers the requests of pages, for `createServer` and for `app.use`. */
+/** Answers the requests of pages, for `createServer` and for `app.use`. */
 export function passkeys(server, options) {
   const core = new Core(webcrypto, server, options), asked = (request) => askedOf(request, { address: request?.ip ?? request?.socket?.remoteAddress });
 

@@ -1,4 +1,4 @@
-// The package as `garvoeng/web` has it, with the module as text: nothing is to be loaded, and no file stands beside a bundle.
+// The same as `garvoeng/web`, with the module as text: nothing has to be loaded, and a bundle needs no other file.
 import { take } from "./web_module.js";
 import { WASM } from "./wasm_text.js";
 

@@ -4,7 +4,7 @@ import { allowed, checkFunction, checkId, checkSession, checkUser, checkWhole, f
 import { registrationOptionsIn, signInOptionsIn } from "./options.js";
 import { KeptCredential, RegistrationSession, SignInSession, ofRow, openIn, soundIn, soundOf } from "./records.js";
 
-/** How many seconds a session stays open, if not said. */
+/** How many seconds a session stays open by default. */
 export const LIFETIME = 300;
 
 const CALLS = ["begin", "session", "register", "signIn", "abandon", "row", "rows", "retire", "retireAll", "delete", "erase"];
@@ -27,7 +27,7 @@ function answered(call, told, isAnswer, wanted) {
 const isCount = (told) => Number.isSafeInteger(told) && told >= 0;
 const isFlag = (told) => typeof told === "boolean";
 
-/** The class `KeepingServer`, with random bytes of Node or of WebCrypto. */
+/** The class `KeepingServer`, with random bytes from Node or WebCrypto. */
 export function keepingOver(randomBytes) {
   const newNumber = () => Array.from(randomBytes(16), (byte) => byte.toString(16).padStart(2, "0")).join("");
 

@@ -1,4 +1,4 @@
-// The structs of c/passkey.h, whose pointers have 64 bits: of each member its offset in bytes.
+// The structs of c/passkey.h, whose pointers have 64 bits: the offset of each member in bytes.
 const U8 = { sizeOf: 1, alignment: 1 };
 const I32 = { sizeOf: 4, alignment: 4 };
 const U32 = I32;

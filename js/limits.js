@@ -1,5 +1,5 @@
-// What a relying party and its sessions may be. Each value out of its limits is refused by `BadInput` at once, and not at each
-// visitor's response.
+// The limits of a relying party and its sessions. A value out of its limits is refused with `BadInput` at once, and not at each visitor's
+// response.
 import { BadInput } from "./errors.js";
 
 export const ES256 = -7;
@@ -7,27 +7,27 @@ export const EDDSA = -8;
 export const RS256 = -257;
 export const ALGORITHMS = Object.freeze([ES256, EDDSA, RS256]);
 
-/** The most credential ids of a list. Browsers take no longer one. */
+/** The greatest number of credential ids in a list. Browsers accept no longer one. */
 export const MAX_LIST = 64;
-/** The same of a `StoredServer` of the profile `strict`. */
+/** The same for a `StoredServer` with the profile `strict`. */
 export const MAX_STRICT_LIST = 8;
-/** The most bytes of the ids that are listed where a site gives no list, so that a line has room for them. */
+/** The greatest total size, in bytes, of the ids listed if a site gives no list, so that a line has room for them. */
 const MAX_OWN = 32_768;
-/** The most bytes of a user handle (WebAuthn Level 2, section 5.4.3). */
+/** The greatest length of a user handle, in bytes (WebAuthn Level 2, section 5.4.3). */
 export const MAX_USER = 64;
-/** The most bytes of a credential id (WebAuthn Level 2, section 4). */
+/** The greatest length of a credential id, in bytes (WebAuthn Level 2, section 4). */
 export const MAX_ID = 1023;
 
 /** The greatest signature counter (WebAuthn Level 2, section 6.1). */
 export const MAX_COUNT = 0xffffffff;
 
-/** How many seconds a visitor stays signed in, if not said. */
+/** How many seconds a visitor stays signed in by default. */
 export const SIGNED_IN_FOR = 14 * 24 * 3600;
 
-/** How a credential is attested, by the library's number. */
+/** How a credential is attested, in the order of the library's numbers. */
 export const FORMATS = Object.freeze(["none", "packed"]);
 
-/** Which responses a relying party takes, by the library's number. */
+/** Which responses a relying party accepts, in the order of the library's numbers. */
 export const PROFILES = Object.freeze(["strict", "open", "level3"]);
 
 const DOMAIN = /^[a-z0-9_](?:[a-z0-9_-]*[a-z0-9_])?(?:\.[a-z0-9_](?:[a-z0-9_-]*[a-z0-9_])?)*$/;
@@ -45,18 +45,19 @@ export function isBytes(value) {
   return kindOfArray.call(value) === "Uint8Array";
 }
 
-/** What is excluded where a site gives no list: those of an account's credentials for which a list of so many and a line have room, the first ones. */
+/** What is excluded if a site gives no list: the first of an account's credentials, as many as a list of this length and a line have room
+ *  for. */
 export function fitting(rows, most = MAX_LIST) {
   let size = 0;
   return rows.slice(0, most).filter(({ id }) => (size += id.length) <= MAX_OWN);
 }
 
-/** What is listed where a site gives no list: all of an account's credentials, or none, so that any of them may answer. */
+/** What is listed if a site gives no list: all of an account's credentials, or none, so that any of them may answer. */
 export function allowed(rows, most = MAX_LIST) {
   return fitting(rows, most).length === rows.length ? rows : [];
 }
 
-/** A value as an error shows it. */
+/** A value in the form that errors show. */
 export function shown(value) {
   if (typeof value === "string") return JSON.stringify(value.length > 40 ? `${value.slice(0, 40)}..` : value);
   if (["undefined", "boolean", "number"].includes(typeof value) || value === null) return String(value);
@@ -68,12 +69,12 @@ function either(texts) {
   return listed.length === 1 ? listed[0] : `${listed.slice(0, -1).join(", ")} or ${listed.at(-1)}`;
 }
 
-/** The members that a value has itself, and none that another program added to Object.prototype. */
+/** The members that a value has itself, without any that another program added to Object.prototype. */
 export function ownOf(value) {
   return Object.assign(Object.create(null), value);
 }
 
-/** The options that a call was given itself, of these names. */
+/** The options with these names that a call was given itself. */
 export function optionsIn(options, call, names) {
   if (options !== undefined && (typeof options !== "object" || options === null || Array.isArray(options)))
     throw new BadInput(`the options of ${call} are ${shown(options)}: write an object, as { ${names[0]}: .. }`);
@@ -83,7 +84,7 @@ export function optionsIn(options, call, names) {
   return own;
 }
 
-/** A member of a value of the host's, its own or its class's. */
+/** A member of a value from the host, its own or its class's. */
 export function memberOf(value, name) {
   const found = value[name];
   return found === Object.prototype[name] && !Object.hasOwn(value, name) ? undefined : found;
@@ -132,7 +133,7 @@ function hostOf(origin) {
   return usual === null ? "" : host;
 }
 
-/** The origins of a relying party. Where there are web origins, the host of one is the rp id or ends in it. */
+/** Checks the origins of a relying party. If there are web origins, the host of at least one is the rp id or ends in it. */
 export function checkParty(rpId, origins) {
   checkRpId(rpId);
   if (!Array.isArray(origins) || origins.length === 0) throw new BadInput(`origins is ${shown(origins)}: write a list of one text or more, as ["https://example.com"]`);
@@ -142,14 +143,15 @@ export function checkParty(rpId, origins) {
   return Object.freeze(listed);
 }
 
-/** Origins of other pages than the site's: those of `topOrigins` may have it in a frame (WebAuthn Level 3, section 5.8.1, `topOrigin`). */
+/** Checks origins of pages other than the site's: those of `topOrigins` may have it in a frame (WebAuthn Level 3, section 5.8.1,
+ *  `topOrigin`). */
 export function checkOrigins(value, what) {
   if (!Array.isArray(value)) throw new BadInput(`${what} is ${shown(value)}: write a list of texts, as ["https://example.com"]`);
   value.forEach(hostOf);
   return Object.freeze([...value]);
 }
 
-/** A copy of bytes, which the host can change no more. */
+/** A copy of bytes, which the host can no longer change. */
 export function checkBytes(value, what) {
   if (!isBytes(value)) throw new BadInput(`${what} is ${shown(value)}, and not a Uint8Array: fromText reads base64url, new Uint8Array(..) an ArrayBuffer`);
   return new Uint8Array(value);
@@ -161,7 +163,7 @@ export function checkUser(user) {
   return bytes;
 }
 
-/** Transports as a page tells them: what is none is left out. */
+/** The transports that a page sent. Items that are not transports are left out. */
 export function transportsIn(value) {
   const listed = Array.isArray(value) ? value.slice(0, MAX_TRANSPORTS) : [];
   return Object.freeze(listed.filter((one) => typeof one === "string" && TRANSPORT.test(one)));
@@ -174,14 +176,14 @@ export function checkId(value) {
   return id;
 }
 
-/** The text of a session that a visitor hands back; null where there is none. Of a text that no begin gave none is open. */
+/** The text of a session that a visitor sends back; null if there is none. No session is open for a text that no begin returned. */
 export function checkSession(session) {
   if (session !== undefined && session !== null && typeof session !== "string")
     throw new BadInput(`session is ${shown(session)}: write the text that the begin gave, or null`);
   return session ?? null;
 }
 
-/** The `{ id, transports }` of a list of ids, or of values with such members. */
+/** The `{ id, transports }` of a list of ids, or of values with these members. */
 export function checkIds(ids, most = MAX_LIST) {
   if (!Array.isArray(ids)) throw new BadInput(`a list of credential ids is ${shown(ids)}: write an array of ids, or of credentials`);
   if (ids.length > most) throw new BadInput(`a list has at most ${most} credential ids`);
@@ -203,7 +205,7 @@ export function checkOneOf(value, what, texts) {
   return value;
 }
 
-/** The sizes of a public key's parts. */
+/** Checks the sizes of a public key's parts. */
 export function checkKey({ algorithm, x, y }) {
   if (!ALGORITHMS.includes(algorithm)) throw new BadInput(`algorithm is ${shown(algorithm)}: ${NO_ALGORITHMS}`);
   const fits = algorithm === RS256 ? [256, 384, 512].includes(x.length) && y.length >= 1 && y.length <= 4 : x.length === 32 && y.length === (algorithm === ES256 ? 32 : 0);

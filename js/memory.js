@@ -1,4 +1,4 @@
-// A storage in the memory of one process: for tests, and to be read by whoever writes one.
+// A storage in the memory of one process: for tests, and as an example for writing your own.
 import { toText } from "./forms.js";
 import { KeptCredential } from "./records.js";
 

@@ -1,4 +1,4 @@
-// What `status` of a `StoredServer` tells, as text for Prometheus.
+// The result of `status` of a `StoredServer`, as text for Prometheus.
 const GAUGES = [["credentials", "credentials", 1], ["last_commit_microseconds", "last_commit_seconds", 1_000_000]];
 const COUNTERS = ["commits", "lost_log_lines", "sign_ins", "registrations"];
 const BY_STEP = ["sign_ins_refused", "registrations_refused"];

@@ -1,4 +1,4 @@
-// The module passkey.wasm and its memory. Nothing of a call is left in it for the next one.
+// The module passkey.wasm and its memory. Nothing of one call is left in it for the next.
 import { BYTES } from "./layout.js";
 import { NoMemory } from "./errors.js";
 
@@ -20,7 +20,7 @@ function isTrap(error) {
 // The bytes of an image that has ended, all 0, for the next one.
 let spare = null;
 
-/** The struct of a call with all that it lends, copied as it was when it was lent. Flags and counts are 0 at first. */
+/** The struct of a call with all that it lends, copied when it was lent. Flags and counts are 0 at first. */
 export class Image {
   constructor(size) {
     this.view = spare ?? new DataView(new ArrayBuffer(FIRST_SIZE));
@@ -30,7 +30,7 @@ export class Image {
     this.pointers = [];
   }
 
-  /** Overwrites it. It is of no use from then on. */
+  /** Overwrites it. It cannot be used afterwards. */
   end() {
     this.bytes.fill(0, 0, this.used);
     if (this.bytes.length === FIRST_SIZE) spare = this.view;
@@ -71,21 +71,21 @@ export class Image {
     this.view.setUint32(at, number, true);
   }
 
-  /** Adds bytes; their offset. */
+  /** Adds bytes. Returns their offset. */
   add(value) {
     const made = this.#append(value.length);
     this.bytes.set(value, made);
     return made;
   }
 
-  /** Lends bytes by the `passkey_bytes` at this offset. */
+  /** Lends bytes through the `passkey_bytes` at this offset. */
   lend(at, value) {
     const made = this.add(value);
     this.#point(at + BYTES.data, value.length, made);
     this.u32(at + BYTES.size, value.length);
   }
 
-  /** Lends a list by the pointer and the count at these offsets. */
+  /** Lends a list through the pointer and the count at these offsets. */
   lendList(pointer, count, values) {
     const made = this.#append(values.length * BYTES.sizeOf);
     this.#point(pointer, values.length, made);
@@ -94,7 +94,7 @@ export class Image {
   }
 }
 
-/** What lies in the module's memory from an address on, until the next call. */
+/** What is in the module's memory from an address on, until the next call. */
 export class Room {
   #bytes;
   #view;
@@ -123,8 +123,8 @@ export class Room {
   }
 }
 
-/** An instance of the module. Its calls stand in `within`. Where they are of no owner its memory is as it was at first at their end;
- *  else at the end of the owner's last ones, which says so by `clean`, and at the latest when calls of another one begin. */
+/** An instance of the module. Its calls are made in `within`. If they have no owner, its memory is as it was at first when they end;
+ *  otherwise after the owner's last calls, which the owner marks with `clean`, and at the latest when calls of another owner begin. */
 export class Module {
   #compiled;
   #exports = null;
@@ -173,7 +173,7 @@ export class Module {
     this.#view = new DataView(buffer);
   }
 
-  /** The module's memory as it is now: another array after each growth. */
+  /** The module's memory as it is now: a different array after each growth. */
   bytes() {
     this.#fresh();
     return this.#bytes;
@@ -184,7 +184,7 @@ export class Module {
     return this.#view;
   }
 
-  /** Where there is room in the memory for so many bytes, in which anything of this owner may lie. */
+  /** Where the memory has room for this many bytes, in which anything of this owner may be. */
   take(size) {
     if (size > MOST_LENT) throw new NoMemory();
     const block = this.#exports.malloc(BigInt(size));
@@ -193,14 +193,14 @@ export class Module {
     return Number(block);
   }
 
-  /** Where these bytes lie in the memory. */
+  /** Where these bytes are in the memory. */
   lend(value) {
     const at = this.take(value.length);
     this.bytes().set(value, at);
     return at;
   }
 
-  /** Where an image lies in the memory, with room for so many bytes after it; and where that begins. */
+  /** Where an image is in the memory, with room for this many bytes after it; and where that room begins. */
   place(image, size) {
     const behind = Math.ceil(image.used / 8) * 8, at = this.take(behind + size);
     this.bytes().set(image.bytes.subarray(0, image.used), at);
@@ -216,7 +216,7 @@ export class Module {
     return this.#exports[`${name}_${ABI_VERSION}`](...words);
   }
 
-  /** Makes calls of an owner, if there is one. Where the stack does not suffice they are made once more, from the first, with all of it. */
+  /** Makes the calls of an owner, if there is one. If the stack does not suffice, they are repeated, from the first, with all of it. */
   within(calls, owner = null) {
     if (!this.#isWhole) this.#letGo();
     if (this.#owner !== owner) this.clean();
@@ -253,7 +253,7 @@ export class Module {
     }
   }
 
-  /** Gives back and overwrites all memory that an owner's calls took. */
+  /** Returns and overwrites all memory that an owner's calls took. */
   clean() {
     if (this.#owner !== null) this.#overwrite();
   }

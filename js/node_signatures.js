@@ -6,7 +6,7 @@ import { toText } from "./forms.js";
 // Making a key's object takes most of a verification of ES256, so those that were used last are kept: at most so many, by the algorithm and
 // the exact bytes of the key.
 const MOST = 4_096;
-/** The keys' objects, the one that was used longest ago first. */
+/** The keys' objects, with the least recently used one first. */
 export const kept = new Map();
 
 function formOf(algorithm, x, y) {
@@ -24,7 +24,7 @@ function keyOf(algorithm, x, y) {
   return found;
 }
 
-/** Whether the signature is valid: ES256 over P-256, in DER, EdDSA over Ed25519, or RS256, by PKCS #1 v1.5 with SHA-256, where x
+/** Whether the signature is valid: ES256 over P-256, in DER, EdDSA over Ed25519, or RS256, which is PKCS #1 v1.5 with SHA-256; for RS256 x
  *  is the modulus and y the public exponent. */
 export function isValid(algorithm, x, y, message, signature) {
   if (algorithm !== ES256 && algorithm !== EDDSA && algorithm !== RS256) return false;

@@ -1,4 +1,4 @@
-// The options of a relying party and of its calls, and what a page is asked: PublicKeyCredentialCreationOptionsJSON and
+// The options of a relying party and of its calls, and those for a page: PublicKeyCredentialCreationOptionsJSON and
 // PublicKeyCredentialRequestOptionsJSON (WebAuthn Level 3, section 5.1).
 import { BadInput } from "./errors.js";
 import { descriptor, toText } from "./forms.js";
@@ -13,7 +13,7 @@ const OF_REGISTRATION = ["displayName", "exclude", "algorithms", "residentKey", 
 const OF_SIGN_IN = ["user", "allow", ...OF_BOTH];
 const PARTY = ["rpName", "acceptNone", "acceptSelf", "profile", "topOrigins", "verify"];
 
-/** The options of a relying party in their limits, which has `isValid` for signatures; a class of servers may have some more. */
+/** The options of a relying party, checked, with `isValid` for signatures; a class of servers may have some more. */
 export function partyOptionsIn(options, call, { rpId, isValid, more = [] }) {
   const own = optionsIn(options, call, [...PARTY, ...more]);
   const { rpName = rpId, acceptNone = true, acceptSelf = true, profile = "level3", topOrigins = [], verify = isValid } = own;
@@ -43,12 +43,12 @@ function requirementOf(value, what, ifFalse) {
   return value === true ? "required" : value === false ? ifFalse : value;
 }
 
-/** False is `preferred`. */
+/** False means `preferred`. */
 export function userVerificationOf(value) {
   return requirementOf(value, "userVerification", "preferred");
 }
 
-/** False is `discouraged`. */
+/** False means `discouraged`. */
 export function residentKeyOf(value) {
   return requirementOf(value, "residentKey", "discouraged");
 }

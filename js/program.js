@@ -1,10 +1,10 @@
-// Runs of the proved program passkey-site, which answers lines of JSON in their order, and which keeps its file to itself.
+// Runs of the proved program passkey-site, which answers lines of JSON in their order and uses its file alone.
 import { spawn } from "node:child_process";
 import { createInterface } from "node:readline";
 import { BadInput, StoreFailed, logTo } from "./errors.js";
 import { ownOf } from "./limits.js";
 
-/** The most bytes of a line that the program takes. */
+/** The longest line that the program takes, in bytes. */
 export const MAX_LINE = 65_536;
 const LINE_FEED = 10;
 
@@ -24,8 +24,8 @@ function answerIn(line) {
   }
 }
 
-/** One run. It keeps this process alive only while something is asked of it or its end is awaited; its input ends with this
- *  process, and then it closes its file and ends too. */
+/** One run. It keeps this process alive only during a call, or while its end is awaited. Its input ends with this process; then it closes
+ *  its file and ends too. */
 class Run {
   #child;
   #timeout;
@@ -122,7 +122,7 @@ class Run {
     });
   }
 
-  /** Ends its input, by which it answers what was asked and closes its file: its status. One that has not ended in time is
+  /** Ends its input, so that it answers the open calls and closes its file. Returns its status. A run that has not ended in time is
    *  killed. */
   async end() {
     this.#hold(true);
@@ -135,8 +135,7 @@ class Run {
   }
 }
 
-/** The program of these words, which is started where it does not run. What was asked of a run that ended is rejected: it is
- *  done or is not. */
+/** The program of these words, which is started if it does not run. If a run ends, its open calls reject: they may or may not be done. */
 export class Program {
   #words;
   #timeout;
@@ -162,7 +161,7 @@ export class Program {
     return status;
   }
 
-  /** The answer to an act. Throws `BadInput` where the line would be too long, and `StoreFailed`. */
+  /** Resolves to the answer to an act. Rejects with `BadInput` if the line would be too long, and with `StoreFailed`. */
   async ask(act, members) {
     const run = await this.#running(), answer = await run.ask(act, members);
     if (!Object.hasOwn(answer, "failed")) return answer;

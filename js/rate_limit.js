@@ -1,4 +1,4 @@
-// How often a visitor may ask, by the address that asks.
+// Limits how often a visitor may ask, by the address of the request.
 import { BadInput } from "./errors.js";
 import { checkFunction, optionsIn, shown } from "./limits.js";
 
@@ -41,7 +41,7 @@ export class RateLimit {
     this.#clock = checkFunction(clock, "clock", "() => performance.now()");
   }
 
-  /** Counts a request: the seconds after which the address may ask again, 0 where it may ask now. */
+  /** Counts a request. Returns how many seconds the address has to wait, 0 if it may ask now. */
   wait(address) {
     const name = counted(address);
     if (name === undefined) return 0;

@@ -1,4 +1,4 @@
-// What a site keeps between calls, in values that a database can hold.
+// What a site keeps between calls, as values that a database can store.
 import { BadInput, RowDamaged, logTo, marked } from "./errors.js";
 import { fromText, toText } from "./forms.js";
 import {
@@ -44,7 +44,7 @@ function aaguidIn(value) {
   return aaguid;
 }
 
-/** What a registration that has begun expects. It answers one response; the site deletes it then. */
+/** What a registration that has begun expects. It accepts one response; then the site deletes it. */
 export class RegistrationSession {
   constructor(members) {
     const { challenge, user, userVerification = false, algorithms = ALGORITHMS, conditional = false, attestation = true } =
@@ -63,7 +63,7 @@ export class RegistrationSession {
              algorithms: this.algorithms, conditional: this.conditional, attestation: this.attestation };
   }
 
-  /** The session of what `toJSON` gave, or of its text. Throws `BadInput`. */
+  /** Reads a session from the result of `toJSON`, or from its text. Throws `BadInput`. */
   static fromJSON(json) {
     // An older session has neither of these.
     const value = ownOf({ conditional: false, attestation: true, ...objectOf(json, "session") });
@@ -74,7 +74,7 @@ export class RegistrationSession {
 }
 marked(RegistrationSession, "RegistrationSession");
 
-/** What a sign-in that has begun expects. It answers one response; the site deletes it then. */
+/** What a sign-in that has begun expects. It accepts one response; then the site deletes it. */
 export class SignInSession {
   constructor(members) {
     const { challenge, user = null, allow = [], userVerification = false } =
@@ -92,7 +92,7 @@ export class SignInSession {
              user_verification: this.userVerification };
   }
 
-  /** The session of what `toJSON` gave, or of its text. Throws `BadInput`. */
+  /** Reads a session from the result of `toJSON`, or from its text. Throws `BadInput`. */
   static fromJSON(json) {
     const value = objectOf(json, "session");
     if (!Array.isArray(value.allow)) throw new BadInput("allow is not an array");
@@ -122,7 +122,7 @@ export class Credential {
     Object.freeze(this);
   }
 
-  /** The same with what a sign-in told. */
+  /** The same with the results of a sign-in. */
   received(signCount, eligible) {
     const { id, user, algorithm, x, y, retired, transports } = this;
     return madeOf(Credential, { id, user, algorithm, x, y, signCount, eligible, retired, transports });
@@ -133,7 +133,7 @@ export class Credential {
              eligible: this.eligible, retired: this.retired, transports: this.transports };
   }
 
-  /** The credential of what `toJSON` gave, or of its text. Members of other names are passed over. Throws `BadInput`. */
+  /** Reads a credential from the result of `toJSON`, or from its text. Members with other names are ignored. Throws `BadInput`. */
   static fromJSON(json) {
     return new Credential(credentialInJson(objectOf(json, "credential")));
   }
@@ -153,7 +153,7 @@ function credentialInJson(value) {
            eligible: flagOrNull(value, "eligible"), retired: flagIn(value, "retired"), transports: kept };
 }
 
-/** A credential's row, and what is known of it. What was never kept is null. */
+/** A credential's row, and what is known of it. Values that were never kept are null. */
 export class KeptCredential extends Credential {
   constructor(members) {
     const { aaguid = null, backedUp = null, createdAt = null, usedAt = null, ...rest } = optionsIn(members, "KeptCredential", [...MEMBERS, ...KEPT]);
@@ -168,14 +168,14 @@ export class KeptCredential extends Credential {
     return { ...super.toJSON(), aaguid: textOrNull(this.aaguid), backed_up: this.backedUp, created_at: this.createdAt, used_at: this.usedAt };
   }
 
-  /** The row of what `toJSON` gave, or of its text. Throws `BadInput`, also of a `Credential` alone. */
+  /** Reads a row from the result of `toJSON`, or from its text. Throws `BadInput`, also for a mere `Credential`. */
   static fromJSON(json) {
     const value = objectOf(json, "credential");
     return new KeptCredential({ ...credentialInJson(value), aaguid: aaguidIn(value), backedUp: flagOrNull(value, "backed_up"),
                                 createdAt: wholeOrNull(value, "created_at", Number.MAX_SAFE_INTEGER), usedAt: wholeOrNull(value, "used_at", Number.MAX_SAFE_INTEGER) });
   }
 
-  /** The row of a registration that was accepted at a second since 1970. */
+  /** The row for a registration that was accepted at a second since 1970. */
   static registered({ credential, aaguid, backedUp }, createdAt) {
     return madeOf(KeptCredential, { ...credential, aaguid, backedUp, createdAt, usedAt: null });
   }
@@ -196,7 +196,7 @@ function credentialOf(value, name) {
   return Credential.fromJSON(value[name]);
 }
 
-/** A registration that was accepted. */
+/** An accepted registration. */
 export class Registered {
   constructor({ credential, aaguid, format, userVerified, backedUp, flags, extensions }) {
     return madeOf(Registered, { credential, aaguid, format, userVerified, backedUp, flags, extensions });
@@ -206,7 +206,7 @@ export class Registered {
     return { credential: this.credential.toJSON(), aaguid: toText(this.aaguid), format: this.format, ...toldOf(this) };
   }
 
-  /** The registration of what `toJSON` gave, or of its text. Throws `BadInput`, also of a sign-in. */
+  /** Reads a registration from the result of `toJSON`, or from its text. Throws `BadInput`, also for a sign-in. */
   static fromJSON(json) {
     const value = objectOf(json, "registration"), aaguid = aaguidIn(value);
     if (!FORMATS.includes(value.format)) throw new BadInput(`format is one of ${FORMATS.join(", ")}`);
@@ -216,13 +216,13 @@ export class Registered {
 }
 marked(Registered, "Registered");
 
-/** A sign-in that was accepted. */
+/** An accepted sign-in. */
 export class SignedIn {
   constructor({ credential, before, userVerified, backedUp, flags, extensions }) {
     return madeOf(SignedIn, { credential, before, userVerified, backedUp, flags, extensions });
   }
 
-  /** The same of a server that has stored it. */
+  /** The same for a server that has stored it. */
   stored() {
     return new SignedIn({ ...this, before: null });
   }
@@ -231,7 +231,7 @@ export class SignedIn {
     return { credential: this.credential.toJSON(), before: this.before === null ? null : this.before.toJSON(), ...toldOf(this) };
   }
 
-  /** The sign-in of what `toJSON` gave, or of its text. Throws `BadInput`, also of a registration. */
+  /** Reads a sign-in from the result of `toJSON`, or from its text. Throws `BadInput`, also for a registration. */
   static fromJSON(json) {
     const value = objectOf(json, "sign-in");
     return new SignedIn({ credential: credentialOf(value, "credential"), before: value.before === null ? null : credentialOf(value, "before"), ...toldIn(value) });
@@ -239,34 +239,34 @@ export class SignedIn {
 }
 marked(SignedIn, "SignedIn");
 
-/** The credential of a host's row, which may have members of its own more. */
+/** The credential in a host's row, which may have more members, of the host's own. */
 export function credentialIn(row) {
   if (row instanceof Credential) return row;
   if (typeof row !== "object") throw new BadInput(`the credential is ${shown(row)}: write a Credential, or null`);
   return new Credential(Object.fromEntries(MEMBERS.map((name) => [name, memberOf(row, name)])));
 }
 
-/** The session of a row. */
+/** The session in a row. */
 export function openIn(kind, json) {
   const session = kind.fromJSON(json);
   if (session.challenge.length !== 32) throw new BadInput("the challenge is not of 32 bytes");
   return session;
 }
 
-/** The row of a host's own, which may have members more, in its limits. */
+/** A host's own row, which may have more members, checked against its limits. */
 export function soundIn(row) {
   if (typeof row !== "object" || row === null) throw new BadInput(`the row is ${shown(row)}: write a KeptCredential`);
   const made = row instanceof KeptCredential ? row : new KeptCredential(Object.fromEntries([...MEMBERS, ...KEPT].map((name) => [name, memberOf(row, name)])));
   return KeptCredential.fromJSON(made.toJSON());
 }
 
-/** What is thrown where the row of an id led to this error: `RowDamaged` in place of each `BadInput`, or of those with these numbers. */
+/** What to throw if the row of an id led to this error: `RowDamaged` in place of each `BadInput`, or of those with these numbers. */
 export function rowError(id, error, numbers = null) {
   if (!(error instanceof BadInput) || numbers?.includes(error.number) === false) return error;
   return new RowDamaged(id, `the row of the credential ${toText(id)} is damaged: ${error.message}`, { cause: error });
 }
 
-/** What `read` makes of rows. One that is damaged is left out, and logged. */
+/** The results of `read` for rows. A damaged row is left out and logged. */
 export function soundOf(rows, read, logger) {
   return Array.from(rows).flatMap((row) => {
     try {
@@ -279,7 +279,7 @@ export function soundOf(rows, read, logger) {
   });
 }
 
-/** What `make` makes of the row of an id. */
+/** The result of `make` for the row of an id. */
 export function ofRow(id, make) {
   try {
     return make();

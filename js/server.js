@@ -1,4 +1,4 @@
-// A relying party over the proved steps. It keeps nothing: sessions and credentials are the site's.
+// A relying party over the proved steps. It keeps nothing: the site stores the sessions and credentials.
 import { BadInput } from "./errors.js";
 import { REGISTRATION_MEMBERS, SIGN_IN_MEMBERS, bytesIn, toText, transportsOf } from "./forms.js";
 import {
@@ -44,8 +44,8 @@ function credentialOf(credential) {
 
 // What the library says of a credential's key.
 const KEY_LIMITS = [104, 105, 106];
-/** The class `Server` over a module, random bytes and signatures: those of Node, or WebCrypto's. `moduleOf()` answers the
- *  `Module` whose calls are made. */
+/** The class `Server` over a module, random bytes and signatures, which are Node's or WebCrypto's. `moduleOf()` returns the `Module` whose
+ *  calls are made. */
 export function serverOver(moduleOf, randomBytes, isValid) {
   return class Server {
     #party;
@@ -194,7 +194,7 @@ export function serverOver(moduleOf, randomBytes, isValid) {
   };
 }
 
-/** The functions over a module that no server needs. */
+/** The functions over a module that need no server. */
 export function helpersOver(moduleOf) {
   return {
     isCanonical: (value) => isCanonical(moduleOf(), checkBytes(value, "the value")),

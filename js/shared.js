@@ -1,8 +1,8 @@
-// What the processes of a site share: the program, and who is signed in.
+// What the processes of a site share: the program, and the sign-ins.
 import { randomBytes } from "node:crypto";
 import { Visitors } from "./site_stores.js";
 
-/** The program, and in the memory of the process that has it the `Visitors` of the site. */
+/** The program, and the site's `Visitors` in the memory of the process that runs it. */
 export class Shared {
   #program;
   #visitors = new Visitors(randomBytes);

@@ -1,5 +1,5 @@
-// The server's calls of SimpleWebAuthn 13 over the proved steps, so that a site of theirs moves by one import. What they accept and the steps
-// refuse is in docs/COMING.md.
+// The server's calls of SimpleWebAuthn 13 over the proved steps, so that a site moves over by changing one import. docs/COMING.md says what
+// SimpleWebAuthn accepts and the steps refuse.
 import { randomBytes } from "node:crypto";
 import { RegistrationSession, Server, SignInSession, coseKeyOf, credentialFromCose } from "./index.js";
 import { BadInput, Refused } from "./errors.js";
@@ -119,7 +119,7 @@ function uuidOf(aaguid) {
 
 const OF_RESPONSE = ["response", "expectedChallenge", "expectedOrigin", "expectedRPID", "expectedType", "requireUserVerification"];
 
-/** Judges a registration: `{ verified, registrationInfo }`. Throws `Refused` and `BadInput`; `verified` is false if the attestation's
+/** Verifies a registration: `{ verified, registrationInfo }`. Throws `Refused` and `BadInput`; `verified` is false if the attestation's
  *  signature is not valid. */
 export async function verifyRegistrationResponse(options) {
   const { response, expectedChallenge, expectedOrigin, expectedRPID, expectedType, requireUserVerification = true, requireUserPresence = true, supportedAlgorithmIDs = ALGORITHMS,
@@ -154,7 +154,7 @@ function storedOf(credential, response) {
   return { user, stored: credentialFromCose({ id: fromText(id, "id of the credential"), user, signCount: counter, coseKey }) };
 }
 
-/** Judges a sign-in: `{ verified, authenticationInfo }`. Throws `Refused` and `BadInput`; `verified` is false if the signature is not
+/** Verifies a sign-in: `{ verified, authenticationInfo }`. Throws `Refused` and `BadInput`; `verified` is false if the signature is not
  *  valid. */
 export async function verifyAuthenticationResponse(options) {
   const { response, expectedChallenge, expectedOrigin, expectedRPID, expectedType, requireUserVerification = true, credential, advancedFIDOConfig } =

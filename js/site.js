@@ -1,4 +1,4 @@
-// The requests of a site with passkeys, by fetch's Request and Response, in Node.
+// The requests of a site with passkeys, with fetch's Request and Response, in Node.
 import { randomBytes, webcrypto } from "node:crypto";
 import { passkeysOver } from "./site_fetch.js";
 import { memoryOver } from "./site_stores.js";

@@ -1,9 +1,9 @@
-// What a site says of its accounts.
+// The functions for a site's accounts.
 import { marked } from "./errors.js";
 import { MAX_USER, isBytes, memberOf, optionsIn, ownOf, shown } from "./limits.js";
 import { isPlain } from "./site_requests.js";
 
-/** A function of the accounts throws it to turn a visitor away: he is answered its text, by its status. */
+/** A function of the accounts throws it to turn a visitor away: the answer has its text and its status. */
 export class Denied extends Error {
   constructor(text, status = 403) {
     if (!Number.isInteger(status) || status < 400 || status > 499) throw new TypeError(`the status of Denied is ${shown(status)}, and no number from 400 to 499`);
@@ -32,12 +32,12 @@ export class Visitor {
 }
 marked(Visitor, "Visitor");
 
-/** The functions that the accounts of a site may have. */
+/** The functions that a site's accounts may have. */
 export const FUNCTIONS = ["userOf", "expected", "mayRegister", "create", "registered", "signedIn", "signedOut", "refused"];
 
 export const isHandle = (value) => isBytes(value) && value.length >= 1 && value.length <= MAX_USER;
 
-/** What is thrown where a function answered another kind of value. */
+/** The error if a function returned a value of another type. */
 export const wrong = (name, said, wanted) => new TypeError(`${name} of the accounts answered ${shown(said)}, and not ${wanted}`);
 
 /** The site's function of this name, or null. */
@@ -54,7 +54,8 @@ function namesIn(value) {
   return names.filter((name) => name !== "constructor");
 }
 
-/** What has the site's functions, or null. Of what has others alone, as a class or a slip, nothing would be asked, and everybody might register. */
+/** The object with the site's functions, or null. One with other functions alone, such as a class or a slip, is refused, because everybody
+ *  might register. */
 export function checkAccounts(accounts) {
   if (accounts === null) return null;
   if (!["object", "function"].includes(typeof accounts) || Array.isArray(accounts)) throw new TypeError(`accounts is ${shown(accounts)}, and no object with functions`);
@@ -64,7 +65,7 @@ export function checkAccounts(accounts) {
   return accounts;
 }
 
-/** Who the site says is signed in, or null. */
+/** Who is signed in, as the site says, or null. */
 export function visitorIn(said) {
   if (said === undefined || said === null) return null;
   const told = isHandle(said) ? { user: said } : said instanceof Visitor || isPlain(said) ? said : {}, { user, name, at } = ownOf(told);
@@ -88,7 +89,7 @@ const ANSWERS = {
 };
 const NOTHING = [(said) => said === null, "nothing"];
 
-/** What a function answered, null in place of nothing, if it is an answer. */
+/** The result of a function, with null for nothing, if it is an answer. */
 export function answerOf(name, said) {
   const [isAnswer, wanted] = Object.hasOwn(ANSWERS, name) ? ANSWERS[name] : NOTHING, told = said ?? null;
   if (!isAnswer(told)) throw wrong(name, said, wanted);

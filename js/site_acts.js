@@ -1,4 +1,4 @@
-// What a visitor asks, act by act. Python's garvoeng/web/acts.py has the same.
+// The visitor's requests, act by act. Python's garvoeng/web/acts.py has the same.
 import { BadInput, Refused, RowDamaged, SessionDamaged, StoreFailed, logTo } from "./errors.js";
 import { fromText, toText } from "./forms.js";
 import { isBytes, shown } from "./limits.js";
@@ -45,7 +45,7 @@ function bytesOrNull(text) {
 
 const closed = () => new Refused(true, 1, SESSION_CLOSED);
 
-/** What is waited for at most so many milliseconds. */
+/** The awaited result, if it comes within this many milliseconds. */
 export async function within(milliseconds, what, waited) {
   let timer;
   const ended = new Promise((_, reject) => (timer = setTimeout(() => reject(new StoreFailed(`${what} in ${milliseconds / 1000} seconds`)), milliseconds)));
@@ -74,7 +74,7 @@ export class Visit {
 
   // ---- the answer
 
-  /** The status, the headers as pairs, and the body of what is answered. */
+  /** The status, the headers as pairs, and the body of the answer. */
   async answered() {
     const { path, method } = this.#request;
     let status = 200, value, more = [];
@@ -182,7 +182,7 @@ export class Visit {
     return new Visitor({ user, at, credential, number });
   }
 
-  /** Who is signed in: by the site's own word, where it has one. */
+  /** The visitor who is signed in, by the site's own function if it has one. */
   async visitor() {
     const kept = await this.#kept();
     if (!this.#has("userOf")) return kept;
@@ -330,7 +330,7 @@ export class Visit {
     });
   }
 
-  /** The visitor's sign-in ends, and what he has open. */
+  /** Ends the visitor's sign-in and open ceremonies. */
   async end() {
     await this.#ends(this.#cookie(SIGNED_IN));
     for (const session of [(await this.#begun()).session, this.#cookie(SIGN_IN)]) if (session !== null) await this.#server.abandon(session);
@@ -373,7 +373,7 @@ const ACTS = {
   retire: ["POST", (visit) => visit.retire()],
 };
 
-/** The paths below the address of the acts, the page's among them, with the method of each. */
+/** The paths below the address of the acts, including the page's, with the method of each. */
 export const METHODS = Object.freeze({
   ...Object.fromEntries(Object.keys(FILES).map((path) => [path, "GET"])), ...Object.fromEntries(Object.entries(ACTS).map(([path, [method]]) => [path, method])),
 });

@@ -1,4 +1,5 @@
-// The requests of a site with passkeys, in no framework: JSON and cookies in, JSON and cookies out. Python's `garvoeng.web` is the same.
+// The requests of a site with passkeys, without a framework: JSON and cookies in, JSON and cookies out. Python's `garvoeng.web` is the
+// same.
 import { BadInput } from "./errors.js";
 import { SIGNED_IN_FOR, checkFunction, checkOrigins, checkWhole, isBytes, optionsIn, ownOf, shown } from "./limits.js";
 import { RateLimit } from "./rate_limit.js";
@@ -46,7 +47,7 @@ function checkServer(server) {
   return server;
 }
 
-/** The acts over a server and a site's accounts, by the WebCrypto of a platform. */
+/** The acts over a server and a site's accounts, with the WebCrypto of a platform. */
 export class Core {
   #limit;
 
@@ -76,21 +77,21 @@ export class Core {
     this.logger = checkFunction(logger, "logger", "(told) => console.error(told)");
   }
 
-  /** The seconds that an address has to wait. */
+  /** How many seconds an address has to wait. */
   async wait(address) {
     const told = await this.#limit.wait(address);
     if (!Number.isSafeInteger(told) || told < 0) throw new TypeError(`rateLimit.wait answered ${shown(told)}, and not whole seconds, 0 for none`);
     return told;
   }
 
-  /** What is below the address of the acts, of a request's path and query; null where it is not there, or there is no such page. */
+  /** The part below the address of the acts, from a request's path and query; null if it is not below it, or there is no such page. */
   pathOf(url) {
     const [path] = url.split(/[?#]/), front = `${this.base}/`, below = path === this.base ? "" : path.slice(front.length);
     return path === this.base || (path.startsWith(front) && Object.hasOwn(METHODS, below)) ? below : null;
   }
 
-  /** The status, the headers as pairs and the body that a request is answered. `path` is that of `pathOf`, `headers` has `get(name)`,
-   *  null of none, `read(most)` gives the body, and `native` is what the functions of the accounts are given. */
+  /** The status, the headers as pairs and the body of the answer to a request. `path` comes from `pathOf`, `headers` has `get(name)`, which
+   *  is null if there is none, `read(most)` returns the body, and `native` is passed to the functions of the accounts. */
   async answer(request) {
     return new Visit(this, request).answered();
   }
@@ -104,7 +105,7 @@ export class Core {
   }
 }
 
-/** What an adapter has beside its listener: each call takes the framework's own request, of which `askedOf` makes the core's. */
+/** The calls of an adapter besides its listener: each takes the framework's own request, from which `askedOf` makes the core's. */
 export function callsOver(core, askedOf) {
   const visitor = async (request) => core.visitor(askedOf(request));
   return {

@@ -1,4 +1,4 @@
-// The acts as `(Request) => Response` of fetch: for Hono, Next, SvelteKit, Bun, Deno and workers.
+// The acts as a fetch handler, `(Request) => Response`: for Hono, Next, SvelteKit, Bun, Deno and workers.
 import { BadInput } from "./errors.js";
 import { ownOf, shown } from "./limits.js";
 import { Core, callsOver } from "./site_core.js";
@@ -24,7 +24,7 @@ async function bodyOf(request, most) {
   }
 }
 
-/** The function `passkeys`, by the WebCrypto of a platform. */
+/** The function `passkeys`, with the WebCrypto of a platform. */
 export const passkeysOver = (crypto) => function passkeys(server, options) {
   const core = new Core(crypto, server, options);
 

@@ -1,4 +1,4 @@
-// A request of node:http as the core takes it, and what it is answered; for each framework over that.
+// A request of node:http in the form of the core, and its answer; the frameworks over node:http use both.
 import { BadInput } from "./errors.js";
 import { isBytes, shown } from "./limits.js";
 import { HostFault, MAX_BODY } from "./site_requests.js";
@@ -41,14 +41,14 @@ function checkRequest(request) {
   if (typeof request.headers.get === "function") throw new BadInput("the request is one of fetch: passkeys of garvoeng/site takes it");
 }
 
-/** The core's request, but for its path: `native` is the framework's own, which `host` says who reads the body. */
+/** The core's request without its path: `native` is the framework's own, and `host` says who reads the body. */
 export function askedOf(request, { native = request, host = request, address }) {
   checkRequest(request);
   const { method, headers } = request, get = (name) => (Object.hasOwn(headers, name) ? headers[name] ?? null : null);
   return { method, headers: { get }, address, native, read: () => bodyOf(request, host) };
 }
 
-/** Calls `set(name, value)` for each header, and `append` for those that a host may have set too. */
+/** Calls `set(name, value)` for each header, and `append` for those that a host may also have set. */
 export function eachHeader(headers, set, append) {
   for (const [name, value] of headers) (["Set-Cookie", "Vary"].includes(name) ? append : set)(name, value);
 }

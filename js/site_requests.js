@@ -1,10 +1,10 @@
-// A visitor's request as the core takes it, and what is asked of it before it is looked at.
+// A visitor's request in the form of the core, and the checks before it is handled.
 import { BadInput } from "./errors.js";
 import { isBytes, ownOf } from "./limits.js";
 
-/** The most bytes of a visitor's request. */
+/** The largest visitor's request, in bytes. */
 export const MAX_BODY = 128 * 1024;
-/** The cookies: of who is signed in, of an open registration, and of an open sign-in. */
+/** The cookies for a sign-in, for an open registration, and for an open sign-in ceremony. */
 export const SIGNED_IN = "garvoeng";
 export const REGISTRATION = "garvoeng_registration";
 export const SIGN_IN = "garvoeng_sign_in";
@@ -30,7 +30,7 @@ export function isPlain(value) {
   return kind === null || Object.getPrototypeOf(kind) === null;
 }
 
-/** A browser takes `__Host-` from this very host alone, by https (RFC 6265bis, section 4.1.3.2). */
+/** A browser accepts `__Host-` only from this very host, by https (RFC 6265bis, section 4.1.3.2). */
 export const cookieName = (name, isSecure) => (isSecure ? `__Host-${name}` : name);
 
 /** The line of a cookie; null ends it. */
@@ -39,20 +39,20 @@ export function cookieLine(name, value, isSecure) {
   return value === null ? `${made}; Max-Age=0; Expires=Thu, 01 Jan 1970 00:00:00 GMT` : made;
 }
 
-/** The value of the first cookie of this name; null where there is none that may be ours. */
+/** The value of the first cookie with this name; null if there is none that may be ours. */
 export function cookieIn(header, name) {
   const front = `${name}=`, found = (header ?? "").split(";").map((one) => one.trim()).find((one) => one.startsWith(front))?.slice(front.length);
   return found && found.length <= MAX_COOKIE && /^[\x21-\x7e]+$/.test(found) ? found : null;
 }
 
-/** Whether a request that changes something is one of the site's own pages, by what browsers say of it (Fetch, section 3.2; Fetch
- *  Metadata, section 2.4). What says neither is no browser's that has passkeys. */
+/** Whether a request that changes something comes from one of the site's own pages, by the headers of browsers (Fetch, section 3.2; Fetch
+ *  Metadata, section 2.4). A request with neither is not from a browser that has passkeys. */
 export function isOfSite(headers, origins) {
   const origin = headers.get("origin"), site = headers.get("sec-fetch-site");
   return origin === null ? site === null || ["same-origin", "none"].includes(site) : origins.includes(origin);
 }
 
-/** What is asked of a request before its body is read. Only JSON is taken: a form of another site can't send it. */
+/** Checks a request before its body is read. Only JSON is accepted: a form of another site can't send it. */
 export function checkHead(headers) {
   const type = headers.get("content-type") ?? "", length = headers.get("content-length") ?? "";
   if (type.split(";")[0].trim().toLowerCase() !== "application/json") throw new BadInput("the body is not application/json");
@@ -92,7 +92,7 @@ function decoded(bytes) {
   }
 }
 
-/** The JSON object of a body (RFC 8259): in UTF-8, each member once. A text or bytes, or the object that the host has read. */
+/** The JSON object in a body (RFC 8259): in UTF-8, each member only once. Takes text or bytes, or the object that the host has read. */
 export function objectIn(body) {
   if (typeof body !== "string" && !isBytes(body)) {
     if (!isPlain(body)) throw new BadInput("the body is no JSON object");
@@ -105,7 +105,7 @@ export function objectIn(body) {
   return ownOf(value);
 }
 
-/** An account's or a passkey's name: 1 to 64 characters that can be printed, or join those around them. */
+/** The name of an account or a passkey: 1 to 64 characters that can be printed, or join those around them. */
 export function nameIn({ name }) {
   if (typeof name !== "string" || !NAME.test(name)) throw new BadInput(`a name has 1 to ${MAX_NAME} characters that can be printed`);
   return name;

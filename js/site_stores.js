@@ -1,14 +1,14 @@
-// What the core keeps beside the credentials: who is signed in, what passkeys are called, and a secret. Of a site of one process in its
-// memory, and of a `StoredServer` in that of the process which has the program.
+// What the core stores beside the credentials: the sign-ins, the names of passkeys, and a secret. A site of one process has them in its
+// memory, and a `StoredServer` in the memory of the process that runs the program.
 import { fromText, toText } from "./forms.js";
 import { SIGNED_IN_FOR, checkWhole } from "./limits.js";
 
-/** The most sign-ins that are kept; the one that began longest ago ends then. */
+/** The most sign-ins that are kept; beyond it the oldest one ends. */
 const MOST = 100_000;
 
 const hexOf = (bytes) => Array.from(bytes, (byte) => byte.toString(16).padStart(2, "0")).join("");
 
-/** What is kept, in values of JSON. */
+/** What is kept, as JSON values. */
 export class Visitors {
   #random;
   #most;
@@ -64,7 +64,7 @@ export class Visitors {
 
 const textOrNull = (value) => (value === null ? null : toText(value));
 
-/** A `WebStore` over the `Visitors` of which `ask(call, ..words)` is asked, wherever they are. */
+/** A `WebStore` that passes its calls by `ask(call, ..words)` to `Visitors`, wherever they are. */
 export class AskedWebStore {
   looksUp = false;
   #ask;
@@ -104,7 +104,7 @@ export class AskedWebStore {
   }
 }
 
-/** The class `MemoryWebStore`, with random bytes of Node or of WebCrypto. */
+/** The class `MemoryWebStore`, with random bytes from Node or WebCrypto. */
 export function memoryOver(random) {
   return class MemoryWebStore extends AskedWebStore {
     constructor(most) {

@@ -1,4 +1,4 @@
-// The requests of a site with passkeys, by fetch's Request and Response, where there is no Node.
+// The requests of a site with passkeys, with fetch's Request and Response, without Node.
 import { passkeysOver } from "./site_fetch.js";
 import { memoryOver } from "./site_stores.js";
 

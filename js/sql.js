@@ -1,5 +1,5 @@
-// A relying party whose sessions and credentials are rows of PostgreSQL, for sites of several machines. Each call is one transaction,
-// by the rules for rows of docs/OPERATING.md. Python's `garvoeng.sql` has the same tables.
+// A relying party whose sessions and credentials are rows in PostgreSQL, for sites of several machines. Each call is one transaction, by
+// the rules for rows in docs/OPERATING.md. Python's `garvoeng.sql` has the same tables.
 import { SessionDamaged, logTo, ofSession } from "./errors.js";
 import { toText } from "./forms.js";
 import {

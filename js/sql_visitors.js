@@ -1,4 +1,4 @@
-// Who is signed in, what passkeys are called, and a secret, in the table of sessions. Python's garvoeng.sql has the same rows. `query` makes a
+// The sign-ins, the names of passkeys, and a secret, in the table of sessions. Python's garvoeng.sql has the same rows. `query` runs a
 // statement in a transaction.
 import { randomBytes } from "node:crypto";
 import { BadInput } from "./errors.js";
@@ -13,7 +13,7 @@ const SECRET = "secret";
 // When those end that no visitor has a number for.
 const NEVER = 2 ** 53;
 
-/** What a session's row says; of one that is damaged nothing. */
+/** The members of a session's row; empty if it is damaged. */
 export function membersIn(data) {
   try {
     return ownOf(JSON.parse(data));
@@ -22,7 +22,7 @@ export function membersIn(data) {
   }
 }
 
-/** Stores a session: its id, 32 random hexadecimal digits. */
+/** Stores a session. Returns its id, 32 random hexadecimal digits. */
 export async function stored(query, data, lifetime) {
   const id = randomBytes(16).toString("hex");
   await query(EXPIRED, [now()]);
@@ -44,7 +44,8 @@ function signInOf(number, { signed_in: at, user, credential }) {
   }
 }
 
-/** Who is signed in by this number, or null: also where its passkey is retired or deleted, which is looked up unless another server has it. */
+/** The visitor who is signed in by this number, or null, also if the passkey is retired or deleted. The passkey is looked up unless another
+ *  server has it. */
 export async function signedInBy(query, number, looksUp) {
   const kept = isNumber(number) ? signInOf(number, await found(query, number)) : null;
   if (kept === null || kept.credential === null || !looksUp) return kept;
@@ -52,7 +53,7 @@ export async function signedInBy(query, number, looksUp) {
   return rowCount === 1 ? kept : null;
 }
 
-/** Whether this user is signed in by this number; without one there is nothing to ask. */
+/** Whether this user is signed in by this number; true if there is none to check. */
 export async function isSignedIn(query, user, number) {
   const kept = number === null ? null : await signedInBy(query, number, true);
   return number === null || (kept !== null && toText(kept.user) === toText(user));
@@ -77,12 +78,13 @@ async function rename(query, user, credential, name) {
     await query("insert into garvoeng_session values ($1, $2, $3)", [idOfNames(user), JSON.stringify({ names: Object.fromEntries(names), user: toText(user) }), NEVER]);
 }
 
-/** Forgets what a passkey is called. */
+/** Forgets the name of a passkey. */
 export async function forgetName(query, user, credential) {
   if ((await namesOf(query, user)).has(toText(credential))) await rename(query, user, credential, "");
 }
 
-/** A `WebStore` as rows in the tables of a `SqlServer`: of one that keeps the passkeys too, which `looksUp`, or beside another server. */
+/** A `WebStore` as rows in the tables of a `SqlServer`: either one that keeps the passkeys too (`looksUp`), or one beside another
+ *  server. */
 export class SqlWebStore {
   #server;
   #secret = null;

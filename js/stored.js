@@ -1,5 +1,5 @@
-// A relying party whose credentials the proved program passkey-site keeps in a SQLite file. The program runs beside this process, and
-// answers lines of JSON. A session is a text that it has sealed, which the visitor keeps.
+// A relying party whose credentials are kept in a SQLite file by the proved program passkey-site, which runs beside this process and
+// answers lines of JSON. A session is a text that the program has sealed and that the visitor keeps.
 import cluster from "node:cluster";
 import { BadInput, Refused, StoreFailed } from "./errors.js";
 import { REGISTRATION_MEMBERS, SIGN_IN_MEMBERS, fromText, handedOn, sealed, toText, transportsOf } from "./forms.js";

@@ -1,4 +1,4 @@
-// The calls of c/passkey.h: each judges one response by what it is handed.
+// The calls of c/passkey.h: each verifies one response from its arguments alone.
 import { BadInput, NoMemory, Refused } from "./errors.js";
 import { EDDSA, ES256, FORMATS, RS256 } from "./limits.js";
 import {
@@ -8,9 +8,9 @@ import {
 import { Image, Room } from "./module.js";
 
 export const ACCEPTED = 0;
-/** Of a registration. */
+/** A registration's step. */
 export const BAD_STATEMENT = 13;
-/** Of a sign-in. */
+/** A sign-in's step. */
 export const BAD_SIGNATURE = 14;
 // Inputs out of their limits have the numbers from here on, up to that of out of memory; steps have those below.
 const FIRST_LIMIT = 100;
@@ -52,7 +52,7 @@ function assertionResponse(image, at, { rawId, user, authData, signature, client
   image.lend(at + ASSERTION_RESPONSE.client_data, clientData);
 }
 
-/** A registration to be judged, in the form of `passkey_registration_call`. */
+/** A registration to verify, in the form of `passkey_registration_call`. */
 export function registrationImage(of, session, response, { rawId, isRegistered, isFull }) {
   const image = new Image(REGISTRATION_CALL.sizeOf);
   party(image, REGISTRATION_CALL.party, of);
@@ -77,7 +77,7 @@ export function registrationImage(of, session, response, { rawId, isRegistered, 
   return image;
 }
 
-/** A sign-in to be judged, in the form of `passkey_assertion_call`. */
+/** A sign-in to verify, in the form of `passkey_assertion_call`. */
 export function assertionImage(of, session, credential, response) {
   const image = new Image(ASSERTION_CALL.sizeOf);
   party(image, ASSERTION_CALL.party, of);
@@ -148,12 +148,12 @@ function judge(module, name, image, out, read) {
   return { at, answer, asked: null, told: answer === ACCEPTED ? read(new Room(module, behind), out) : null };
 }
 
-/** The answer to a registration, what it tells where it is accepted, and where the call lies. */
+/** The answer to a registration, its results if it is accepted, and where the call is in memory. */
 export function judgeRegistration(module, image) {
   return judge(module, "passkey_registration", image, REGISTRATION_OUT, registeredIn);
 }
 
-/** The same of a sign-in. */
+/** The same for a sign-in. */
 export function judgeAssertion(module, image) {
   return judge(module, "passkey_assertion", image, ASSERTION_OUT, flagsIn);
 }
@@ -179,7 +179,7 @@ function copyPart(bytes, to, from, { sizeOf }) {
   bytes.copyWithin(to, from, from + sizeOf);
 }
 
-/** Which signature a registration asks for, whose call lies at this address. */
+/** The signature to verify for a registration whose call is at this address. */
 export function askedOfRegistration(module, call, { profile }, session, response) {
   return asked(module, response.attestationObject.length, (bytes, at) => {
     bytes[at + SIGNATURE_CALL.is_registration] = 1;
@@ -189,7 +189,7 @@ export function askedOfRegistration(module, call, { profile }, session, response
   });
 }
 
-/** Which signature a sign-in asks for, whose call lies at this address. */
+/** The signature to verify for a sign-in whose call is at this address. */
 export function askedOfAssertion(module, call, response) {
   return asked(module, Math.max(response.authData.length, response.signature.length), (bytes, at) => {
     copyPart(bytes, at + SIGNATURE_CALL.assertion, call + ASSERTION_CALL.response, ASSERTION_RESPONSE);
@@ -197,7 +197,7 @@ export function askedOfAssertion(module, call, response) {
   });
 }
 
-/** The text of an answer; empty where it has none. */
+/** The text for an answer; empty if it has none. */
 export function refusalText(module, isRegistration, answer) {
   return module.within(() => {
     const at = module.take(MOST_OF_A_TEXT);
@@ -206,7 +206,7 @@ export function refusalText(module, isRegistration, answer) {
   });
 }
 
-/** Throws what an answer says; nothing where it is accepted. */
+/** Throws the error for an answer; does nothing if it is an acceptance. */
 export function checkAnswer(module, isRegistration, answer) {
   if (answer === ACCEPTED) return;
   if (answer === NO_MEMORY) throw new NoMemory();
@@ -215,12 +215,12 @@ export function checkAnswer(module, isRegistration, answer) {
   throw new BadInput(text, answer);
 }
 
-/** Whether the bytes are one value of canonical CBOR (CTAP 2.1), and no more. */
+/** Whether the bytes are exactly one value in canonical CBOR (CTAP 2.1). */
 export function isCanonical(module, value) {
   return module.within(() => module.call("passkey_is_canonical", BigInt(module.lend(value)), BigInt(value.length)) !== 0);
 }
 
-/** The algorithm, x and y of COSE_Key bytes (RFC 9052, section 7); null where they are no key's in canonical CBOR. */
+/** The algorithm, x and y of COSE_Key bytes (RFC 9052, section 7); null if they are not a key in canonical CBOR. */
 export function keyFromCose(module, value) {
   return module.within(() => {
     const at = module.lend(value), out = module.take(KEY_OUT.sizeOf);
@@ -229,7 +229,7 @@ export function keyFromCose(module, value) {
   });
 }
 
-/** COSE_Key bytes; none where the key is out of its limits, or there was no memory. */
+/** COSE_Key bytes; empty if the key is out of its limits, or there was no memory. */
 export function keyToCose(module, parts) {
   return module.within(() => {
     const image = new Image(KEY.sizeOf);

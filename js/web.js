@@ -1,4 +1,4 @@
-// The package where there is no Node: signatures by WebCrypto. `load` comes before all else.
+// The package without Node: signatures by WebCrypto. Call `load` first.
 import { isValid } from "./web_signatures.js";
 import { isBytes } from "./limits.js";
 import { keepingOver } from "./keeping.js";

@@ -1,4 +1,4 @@
-// The module of a page or a worker, once it is there.
+// The module of a page or a worker, once it is loaded.
 import { Module } from "./module.js";
 
 let loaded = null;
@@ -8,7 +8,7 @@ export function moduleOf() {
   return loaded;
 }
 
-/** Takes what was compiled. */
+/** Takes the compiled module. */
 export function take(compiled) {
   loaded = new Module(compiled);
 }

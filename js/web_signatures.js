@@ -31,8 +31,7 @@ function numbersOf(value) {
   return s === null || s.end !== value.length ? null : new Uint8Array([...r.made, ...s.made]);
 }
 
-/** Whether the signature is valid, as `isValid` of Node tells it; a promise. It is rejected where the platform does not have the
- *  algorithm. */
+/** Resolves to whether the signature is valid, like `isValid` of Node. Rejects if the platform does not have the algorithm. */
 export async function isValid(algorithm, x, y, message, signature) {
   if (!Object.hasOwn(PARAMETERS, algorithm)) return false;
   const parameters = PARAMETERS[algorithm], bytes = algorithm === ES256 ? numbersOf(signature) : signature;

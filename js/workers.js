@@ -1,4 +1,4 @@
-// One program for the processes of node:cluster: the primary has it, and its workers ask the primary.
+// One program for the processes of node:cluster: the primary runs it, and its workers ask the primary.
 import cluster from "node:cluster";
 import { BadInput, StoreFailed } from "./errors.js";
 import { ownOf } from "./limits.js";
@@ -15,7 +15,7 @@ async function answerOf(key, act, members) {
   }
 }
 
-/** In the primary: answers what workers ask of the program of this key. */
+/** In the primary: answers the workers' calls to the program with this key. */
 export function serveWorkers(key, program) {
   if (served.size === 0) {
     cluster.on("message", async (worker, message) => {
@@ -47,7 +47,7 @@ function listen() {
   });
 }
 
-/** In a worker: the program that the primary has. */
+/** In a worker: the program that the primary runs. */
 export class ProgramOfPrimary {
   #key;
   #timeout;

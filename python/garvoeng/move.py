@@ -4,15 +4,15 @@
     python -m garvoeng.move site FILE DATABASE                   from a site's file, which `passkey-site` keeps
     python -m garvoeng.move to-site DATABASE FILE                back into a site's file
 
-DATABASE is a SQLite file or the address of a PostgreSQL database. FILE is one that no process has, or a backup; a sign-in counter,
-retirement, times and transports go along, and open sessions do not. Back, it is a file that `passkey-site --no-sums`
-has made for the same rp id.
+DATABASE is a SQLite file or the address of a PostgreSQL database. FILE is a file that no process uses, or a backup. Sign-in counters,
+retirement, times and transports are moved; open sessions are not. For `to-site`, `passkey-site --no-sums` must have made the file for the
+same rp id.
 
-ROWS has a line of JSON for each row; bytes are texts of base64url.
-Of python-fido2: `user`, the user handle, `credential_data`, the bytes of `AttestedCredentialData`, and `counter`. Of py_webauthn:
-`user`, and the members of `VerifiedRegistration`: `credential_id`, `credential_public_key`, `sign_count`, `credential_device_type`,
-`credential_backed_up`. Both may have `transports`. Each row is moved by itself, and one that is there already is left as it is, so
-you can repeat it. A row that is not moved is reported by its line; then the status is 1."""
+ROWS has a line of JSON for each row; bytes are base64url text. For python-fido2: `user`, the user handle, `credential_data`, the bytes of
+`AttestedCredentialData`, and `counter`. For py_webauthn: `user`, and the members of `VerifiedRegistration`: `credential_id`,
+`credential_public_key`, `sign_count`, `credential_device_type`, `credential_backed_up`. Both may have `transports`. Each row is moved by
+itself, and one that is there already is left as it is, so you can repeat the command. A row that is not moved is reported by its line; then
+the status is 1."""
 from __future__ import annotations
 
 import json
@@ -46,7 +46,7 @@ def _count(row: Mapping[str, Any], name: str) -> int:
 
 
 def of_fido2(row: Mapping[str, Any]) -> Moved:
-    """A row of python-fido2."""
+    """A row from python-fido2."""
     data = _bytes(row, "credential_data")
     size = int.from_bytes(data[16:18], "big")
     credential = Credential.from_cose(data[18:18 + size], _bytes(row, "user"), data[18 + size:], _count(row, "counter"),
@@ -55,7 +55,7 @@ def of_fido2(row: Mapping[str, Any]) -> Moved:
 
 
 def of_py_webauthn(row: Mapping[str, Any]) -> Moved:
-    """A row of py_webauthn."""
+    """A row from py_webauthn."""
     kind, backed_up = row.get("credential_device_type"), row.get("credential_backed_up")
     if kind not in ("single_device", "multi_device", None) or not isinstance(backed_up, (bool, type(None))):
         raise BadInput("credential_device_type is single_device, multi_device or null, and credential_backed_up true, false or null")
@@ -69,7 +69,7 @@ READERS: Dict[str, Callable[[Mapping[str, Any]], Moved]] = {"fido2": of_fido2, "
 
 
 def moved(reader: Callable[[Mapping[str, Any]], Moved], server: SqlServer, lines: TextIO, told: Callable[[str], None]) -> bool:
-    """Moves the rows of these lines; whether each is there then."""
+    """Moves the rows in these lines. Returns whether each is there then."""
     counts = {"moved": 0, "there already": 0, "not moved": 0}
     for number, line in enumerate(lines, 1):
         try:
@@ -91,7 +91,7 @@ def moved(reader: Callable[[Mapping[str, Any]], Moved], server: SqlServer, lines
 
 
 def _database(address: str) -> SqlServer:
-    """The tables of a database, which are made where there are none."""
+    """The tables of a database, which are made if they are missing."""
     def connect() -> Any:
         if not address.startswith(("postgres:", "postgresql:")):
             return sqlite3.connect(address, timeout=30)
@@ -104,7 +104,7 @@ def _database(address: str) -> SqlServer:
 
 
 def _site(direction: str, source: str, target: str) -> bool:
-    """Moves between a site's file and a database. Its module wants a system with locks as POSIX has them."""
+    """Moves between a site's file and a database. Its module needs a system with POSIX locks."""
     from . import move_site
     if direction == "site":
         return move_site.to_database(source, _database(target), print)
@@ -112,7 +112,7 @@ def _site(direction: str, source: str, target: str) -> bool:
 
 
 def main() -> None:
-    """The command."""
+    """Runs the command."""
     words = sys.argv[1:]
     if len(words) == 2 and words[0] in READERS:
         sys.exit(not moved(READERS[words[0]], _database(words[1]), sys.stdin, print))
