@@ -1,4 +1,4 @@
-"""What examples/frameworks does, in a folder with a copy of what START.md names: frameworks.py PICTURES."""
+"""The program of examples/frameworks, in a folder with a copy of what START.md names: frameworks.py PICTURES."""
 import os
 import re
 import shutil
@@ -52,7 +52,7 @@ def see(what, is_so):
 
 
 def clicked(browser, button, wanted):
-    """Whether the page says this after a click."""
+    """Whether the page shows this after a click."""
     browser.run(f"({SAID} = '', document.getElementById('{button}').click())")
     for _ in range(100):
         if browser.run(SAID) == wanted:
@@ -63,7 +63,7 @@ def clicked(browser, button, wanted):
 
 
 def ways():
-    """The ways of START.md, each with its installation, site and command as they are printed."""
+    """The ways in START.md, each with its installation, site and command as printed there."""
     first = None
     for name, install, file, path, run in ROW.findall((TOP / "START.md").read_text()):
         if install.startswith("the same with "):
@@ -79,7 +79,7 @@ def others():
 
 
 def installed(folder, command):
-    """Runs the installation. npm has no registry here: Debian's Express stands in its place."""
+    """Runs the installation. npm has no registry here, so Debian's Express takes its place."""
     command = command.replace(".tgz express", ".tgz")
     return subprocess.run(["bash", "-c", command], cwd=folder, env=ENVIRONMENT, stdout=subprocess.DEVNULL).returncode == 0
 
@@ -95,7 +95,7 @@ def is_up(url):
 
 
 def acts(name, browser, port, pictures):
-    """Everything that a visitor of the web core does."""
+    """Everything that a visitor of the web core can do."""
     browser.run("document.getElementById('name').value = 'ada'")
     if pictures:
         browser.picture(pictures / "page.png")
@@ -122,14 +122,14 @@ def acts(name, browser, port, pictures):
 
 
 def acts_over_lines(name, browser):
-    """What a visitor of the sample over lines does."""
+    """Everything that a visitor of the sample over lines does."""
     for button in ("registration", "sign_in"):
         browser.run(f"({SAID} = '', document.getElementById('{button}').click())")
         see(f"{name}: {button}", any("credential" in browser.run(SAID) or time.sleep(0.05) for _ in range(100)))
 
 
 def prompted(port, picture):
-    """Photographs what the browser asks, in a window of its own, without an authenticator."""
+    """Photographs the browser's prompt, in its own window, without an authenticator."""
     script = Path("prompt.py")
     script.write_text(f"""import os, subprocess, sys, time
 sys.path.insert(0, {str(HERE / "site")!r})

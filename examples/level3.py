@@ -1,4 +1,4 @@
-"""What examples/level3 does. The site is http://localhost:8201; http://evil.localhost:8202 shows it in a frame."""
+"""The program of examples/level3. The site is http://localhost:8201; http://evil.localhost:8202 shows it in a frame."""
 import http.server
 import json
 import sys
@@ -73,7 +73,7 @@ class Pages(http.server.BaseHTTPRequestHandler):
 
 
 def click_in_frame(browser):
-    """A click on the button of the page in the frame, as a user makes it."""
+    """Clicks on the button of the page in the frame, as a user would."""
     if isinstance(browser, Chromium):
         found = browser._ask(browser.path + "/element", {"using": "css selector", "value": "#it"})
         browser._ask(browser.path + "/frame", {"id": found})
@@ -89,7 +89,7 @@ def click_in_frame(browser):
 
 
 def in_frame(browser, *task):
-    """What the page in the frame of the other site answers."""
+    """The answer of the page in the other site's frame."""
     Pages.task, Pages.answers[:] = list(task), []
     browser.open(OTHER + "/")
     time.sleep(0.5)

@@ -1,4 +1,4 @@
-"""A site in aiohttp whose visitors sign in by passkeys: python passkey_site.py"""
+"""A site in aiohttp whose visitors sign in with passkeys: python passkey_site.py"""
 import sqlite3
 from garvoeng import Server
 from garvoeng.sql import SqlServer

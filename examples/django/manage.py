@@ -1,4 +1,4 @@
-"""A site in Django whose users sign in by passkeys: python manage.py migrate, then python manage.py runserver localhost:8000"""
+"""A site in Django whose users sign in with passkeys: python manage.py migrate, then python manage.py runserver localhost:8000"""
 import os
 import sys
 import django

@@ -1,4 +1,4 @@
-// A site in Express whose visitors sign in by passkeys: node passkey_site.cjs
+// A site in Express whose visitors sign in with passkeys: node passkey_site.cjs
 const express = require("express");
 const { StoredServer } = require("garvoeng");
 const { passkeys } = require("garvoeng/http");

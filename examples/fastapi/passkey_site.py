@@ -1,4 +1,4 @@
-"""A site in FastAPI whose visitors sign in by passkeys: uvicorn passkey_site:app --port 8001"""
+"""A site in FastAPI whose visitors sign in with passkeys: uvicorn passkey_site:app --port 8001"""
 import sqlite3
 from typing import Optional
 from garvoeng import Server

@@ -1,4 +1,4 @@
-"""A site in Flask whose visitors sign in by passkeys: flask --app passkey_site run"""
+"""A site in Flask whose visitors sign in with passkeys: flask --app passkey_site run"""
 import sqlite3
 from garvoeng import Server
 from garvoeng.sql import SqlServer

@@ -1,4 +1,4 @@
-"""A site in Flask whose users are those of Flask-Login, and sign in by passkeys: flask --app passkey_site run --port 5002"""
+"""A site in Flask whose users are managed by Flask-Login and sign in with passkeys: flask --app passkey_site run --port 5002"""
 import os
 import sqlite3
 from garvoeng import Server

@@ -1,4 +1,4 @@
-// A whole site over the lines of site_program, from Go: go run site.go ADDRESS PROGRAM FILE OPTION.., as
+// A whole site over the lines of site_program, in Go: go run site.go ADDRESS PROGRAM FILE OPTION.., for example
 // go run site.go localhost:8080 dist/passkey-site site.db --rp-id localhost --origin http://localhost:8080
 // Its page registers a passkey and signs in. A browser needs PublicKeyCredential.parseCreationOptionsFromJSON.
 package main
@@ -34,7 +34,7 @@ import (
 
 type object map[string]interface{}
 
-// The object that a text is, with numbers as they are written.
+// The JSON object in a text, with numbers as they are written.
 func parsed(text []byte) (object, error) {
 	found := object{}
 	decoder := json.NewDecoder(bytes.NewReader(text))
@@ -71,7 +71,7 @@ func isValid(asked object) bool {
 
 var errEnded = errors.New("the program has ended")
 
-// A run of the program, and who waits for its answers, which come in the order of the lines.
+// A run of the program, and the calls that wait for its answers, which come in the order of the lines.
 type run struct {
 	command *exec.Cmd
 	in      io.WriteCloser
@@ -88,7 +88,7 @@ type site struct {
 	limit   limit
 }
 
-// Starts the program where none runs. What was asked of one that ends fails: it is done or is not.
+// Starts the program if it does not run. If it ends, its open calls fail: they may or may not be done.
 func (s *site) start() (*run, error) {
 	s.state.Lock()
 	defer s.state.Unlock()
@@ -112,7 +112,7 @@ func (s *site) start() (*run, error) {
 	return now, nil
 }
 
-// Hands each answer to the one that asked first.
+// Gives each answer to the call that asked first.
 func (s *site) read(now *run, out *bufio.Reader) {
 	for {
 		line, err := out.ReadBytes('\n')
@@ -160,7 +160,7 @@ func (s *site) write(act string, members object) (*run, chan object, error) {
 	return now, waiting, nil
 }
 
-// The answer to an act. After an error what was asked is done or is not, and the next call starts the program again.
+// Returns the answer to an act. After an error the act may or may not be done, and the next call starts the program again.
 func (s *site) ask(act string, members object) (object, error) {
 	now, waiting, err := s.write(act, members)
 	if err != nil {
@@ -179,7 +179,7 @@ func (s *site) ask(act string, members object) (object, error) {
 	return answer, nil
 }
 
-// The verdict on a response: accepted, refused or error. A wrong signature is told too, so that it is refused and logged.
+// Returns the verdict on a response: accepted, refused or error. A wrong signature is reported too, so that it is refused and logged.
 func (s *site) finish(act string, session, response interface{}) (object, error) {
 	members := object{"session": session, "response": response}
 	answer, err := s.ask(act, members)
@@ -197,8 +197,8 @@ func (s *site) finish(act string, session, response interface{}) (object, error)
 	return s.ask(act, members)
 }
 
-// A session goes to its visitor alone, in a cookie: the program has sealed it. Who signed in is in one that is signed here, for what else the
-// site serves.
+// A session goes only to its visitor, in a cookie: the program has sealed it. Another cookie, signed here, says who signed in, for the
+// site's other pages.
 var secret = random(32)
 
 func random(size int) []byte {
@@ -259,7 +259,7 @@ type bucket struct {
 	at   time.Time
 }
 
-// wait counts a request: the seconds until the address may post again. This machine's own addresses are not limited.
+// wait counts a request and returns the seconds until the address may post again. This machine's own addresses are not limited.
 func (l *limit) wait(address string, now time.Time) int {
 	host, _, err := net.SplitHostPort(address)
 	if ip := net.ParseIP(host); err != nil || ip == nil || ip.IsLoopback() {

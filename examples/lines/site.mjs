@@ -1,4 +1,4 @@
-// A whole site over the lines of site_program, from Node: node site.mjs PORT PROGRAM FILE OPTION.., as
+// A whole site over the lines of site_program, in Node: node site.mjs PORT PROGRAM FILE OPTION.., for example
 // node site.mjs 8080 dist/passkey-site site.db --rp-id localhost --origin http://localhost:8080
 // Its page registers a passkey and signs in. A browser needs PublicKeyCredential.parseCreationOptionsFromJSON.
 import { createHmac, createPublicKey, randomBytes, verify } from "node:crypto";
@@ -22,7 +22,7 @@ export class Site {
   constructor(program, ...words) {
     Object.assign(this, { program, words, number: 0, running: null, timeout: 30_000 });
   }
-  // Starts the program. What was asked of one that ends is rejected: it is done or is not. The next call starts it again.
+  // Starts the program. If it ends, its open calls reject: they may or may not be done. The next call starts it again.
   start() {
     const running = spawn(this.program, this.words, { stdio: ["pipe", "pipe", "inherit"] });
     this.running = Object.assign(running, { asked: [] });
@@ -45,7 +45,7 @@ export class Site {
     running.stdin.on("error", () => running.kill("SIGKILL"));
     return running;
   }
-  // The answer to an act. Answers come in the order of the lines.
+  // Resolves to the answer to an act. Answers come in the order of the lines.
   ask(act, members = {}) {
     const running = this.running ?? this.start();
     return new Promise((resolve, reject) => {
@@ -54,7 +54,7 @@ export class Site {
       running.stdin.write(JSON.stringify({ id: ++this.number, act, ...members }) + "\n");
     });
   }
-  // The verdict on a response: accepted, refused or error. A wrong signature is told too, so that it is refused and logged.
+  // Resolves to the verdict on a response: accepted, refused or error. A wrong signature is reported too, so that it is refused and logged.
   async finish(act, session, response) {
     const answer = await this.ask(act, { session, response });
     if (!answer.verify) return answer;
@@ -65,8 +65,8 @@ export class Site {
   }
 }
 
-// A session goes to its visitor alone, in a cookie: the program has sealed it. Who signed in is in one that is signed here, for what else the
-// site serves.
+// A session goes only to its visitor, in a cookie: the program has sealed it. Another cookie, signed here, says who signed in, for the
+// site's other pages.
 const secret = randomBytes(32);
 const code = text => createHmac("sha256", secret).update(text).digest("base64url");
 
@@ -79,7 +79,7 @@ function found(request, name) {
   return (cookie ?? "").slice(name.length + 1);
 }
 
-// An address posts 50 times at once, and 5 times a second from then on. How long it has to wait, in seconds; this machine's own is not limited.
+// An address may post 50 times at once, and 5 times a second from then on. Returns how many seconds it has to wait; this machine's own is not limited.
 const posted = new Map();
 
 export function wait(address = "", now = Date.now() / 1000) {

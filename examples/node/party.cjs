@@ -1,4 +1,4 @@
-// The relying party of both sites: over the PostgreSQL that DATABASE_URL names, or else over the proved program, which keeps FILE.
+// The relying party of both sites: over the PostgreSQL database in DATABASE_URL, or otherwise over the proved program, which keeps FILE.
 const { Server, StoredServer } = require("garvoeng");
 const { SqlServer } = require("garvoeng/sql");
 

@@ -1,8 +1,8 @@
-// Serves a site by WORKERS processes, four by default, each of which is started again when it ends: node workers.cjs ./express.cjs
+// Serves a site with WORKERS processes, four by default. Each is started again when it ends: node workers.cjs ./express.cjs
 const cluster = require("node:cluster");
-require("./party.cjs"); // The primary has the program.
+require("./party.cjs"); // The primary runs the program.
 
-// Each takes connections itself: one that the primary hands to a process that is killed is lost, and its browser waits.
+// Each accepts connections itself. If the primary passed one to a process that is then killed, it would be lost, and its browser would wait.
 cluster.schedulingPolicy = cluster.SCHED_NONE;
 if (cluster.isPrimary) {
   for (let count = 0; count < Number(process.env.WORKERS ?? 4); count++) cluster.fork();

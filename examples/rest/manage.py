@@ -1,4 +1,4 @@
-"""A site in Django REST framework whose users sign in by passkeys: python manage.py migrate, then python manage.py runserver localhost:8002"""
+"""A site in Django REST framework whose users sign in with passkeys: python manage.py migrate, then python manage.py runserver localhost:8002"""
 import os
 import sys
 import django

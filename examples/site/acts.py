@@ -1,4 +1,4 @@
-"""What a visitor does, over rows of a database or over the proved program with its own file."""
+"""The visitor's acts, over rows of a database or over the proved program with its own file."""
 from __future__ import annotations
 
 import os
@@ -11,7 +11,7 @@ from garvoeng import Credential, PasskeyServer, Server, StoredServer
 from garvoeng.sql import SqlServer
 
 PROGRAM = os.environ.get("PROGRAM", str(Path(__file__).resolve().parents[2] / "dist" / "passkey-site"))
-"""The proved program that keeps credentials in a file of its own."""
+"""The proved program that keeps credentials in its own file."""
 
 Session = Optional[str]
 
@@ -21,26 +21,26 @@ class Acts:
         self.server = server
         self.accounts = accounts
         self.rows = accounts.rows
-        """What keeps who is signed in."""
+        """Stores the sign-ins."""
 
     def sign_in(self, user: bytes, passkey: bytes) -> str:
-        """The number of a sign-in, for the visitor's cookie. It ends with its passkey, or else with any that the account retires."""
+        """The number of a sign-in, for the visitor's cookie. It ends with its passkey, or else when the account retires any."""
         return self.rows.keep_sign_in(user, passkey if self.server is self.rows else None)
 
     def signed_in(self, number: Optional[str], fresh: Optional[int] = None) -> Optional[bytes]:
-        """The user handle of who is signed in, if it is at most `fresh` seconds ago."""
+        """The user handle of the visitor, if the sign-in was at most `fresh` seconds ago."""
         kept = self.rows.signed_in(number, fresh=fresh)
         return None if kept is None else kept.user
 
     def sign_out(self, number: Optional[str], *sessions: Session) -> None:
-        """The sign-in ends, and what has begun."""
+        """Ends the sign-in, and open ceremonies."""
         self.rows.abandon(number)
         for session in sessions:
             if session is not None:
                 self.server.abandon(session)
 
     def register_begin(self, name: str, visitor: Optional[bytes], verified: bool, resident: bool) -> Tuple[Dict[str, Any], Session]:
-        """The options and the session. A name that is another account's is taken."""
+        """The options and the session. A name of another account is taken."""
         user = self.accounts.user_of(name)
         if user is not None and user != visitor:
             raise Taken("the name is another account's")
@@ -55,7 +55,7 @@ class Acts:
         return made.user, made.id
 
     def sign_in_begin(self, name: str, verified: bool) -> Optional[Tuple[Dict[str, Any], Session]]:
-        """The options and the session; None where no account has the name."""
+        """The options and the session; None if no account has the name."""
         user = self.accounts.user_of(name) if name else None
         if name and user is None:
             return None
@@ -71,7 +71,7 @@ class Acts:
         return sorted(self.server.rows(user), key=lambda row: bytes(row.id))
 
     def retire(self, user: bytes, id: bytes) -> bool:
-        """Retires a passkey of this user; whether there is one of this id."""
+        """Retires a passkey of this user. Returns whether there is one with this id."""
         if id not in (row.id for row in self.server.rows(user)):
             return False
         self.server.retire(id, user=user)
@@ -81,7 +81,7 @@ class Acts:
 
 
 def acts_at(address: str, rp_id: str, origin: str, rp_name: str) -> Acts:
-    """`program:FILE` is a file of the program; else a SQLite file or a PostgreSQL address."""
+    """`program:FILE` is a file of the program; anything else is a SQLite file or a PostgreSQL address."""
     server = Server(rp_id, [origin], rp_name)
     if address.startswith("program:"):
         file = address[len("program:"):]

@@ -16,14 +16,14 @@ from werkzeug.wrappers import Response as AnyResponse
 
 HERE = os.path.dirname(os.path.abspath(__file__))
 MAX_BODY = 64 * 1024
-"""The most bytes of a visitor's request."""
+"""The largest request of a visitor, in bytes."""
 FRESH = 300
 """How many seconds after a sign-in a passkey may be added to the account."""
 Answered = Union[Response, Tuple[Response, int]]
 
 
 def body() -> Dict[str, Any]:
-    """The request's JSON object."""
+    """The JSON object in the request."""
     try:
         value = request.get_json(silent=True)
     except RecursionError:
@@ -53,7 +53,7 @@ def site(address: str, origin: str, secret: bytes) -> Flask:
 
     @app.before_request
     def limited() -> Optional[AnyResponse]:
-        """Answers a visitor who posts too often, before anything is done."""
+        """Answers a visitor who posts too often, before any work is done."""
         wait = limit(request.remote_addr) if request.method == "POST" else 0
         if not wait:
             return None
@@ -65,7 +65,7 @@ def site(address: str, origin: str, secret: bytes) -> Flask:
         return acts.signed_in(cookie.get("signed-in"), fresh)
 
     def begun_by() -> Optional[str]:
-        """The number of the visitor's sign-in, while it is one."""
+        """The number of the visitor's sign-in, if it is still valid."""
         return None if signed_in_user() is None else cookie["signed-in"]
 
     @app.get("/")
@@ -148,8 +148,8 @@ def site(address: str, origin: str, secret: bytes) -> Flask:
 
 
 def of_environment() -> Flask:
-    """The site for a WSGI server, as `gunicorn "app:of_environment()"`: ROWS is the address of its rows, ORIGIN its origin,
-    SECRET the secret of its cookies, the same in each process."""
+    """The site for a WSGI server, such as `gunicorn "app:of_environment()"`: ROWS is the address of its rows, ORIGIN its origin, SECRET the
+    secret for its cookies, the same in each process."""
     return site(os.environ["ROWS"], os.environ["ORIGIN"], os.environ["SECRET"].encode())
 
 

@@ -1,4 +1,4 @@
-"""Headless browsers with virtual authenticators: Chromium by its WebDriver (Debian's chromium and chromium-driver), Firefox by
+"""Headless browsers with virtual authenticators: Chromium through its WebDriver (Debian's chromium and chromium-driver), Firefox through
 Marionette (Debian's firefox-esr). Both have the same methods."""
 import base64
 import json
@@ -39,7 +39,7 @@ class Chromium:
         self._ask(self.path + "/url", {"url": url})
 
     def run(self, script, *values):
-        """The value of a JavaScript expression, awaited; an error's text where it throws. The values are its `values`."""
+        """The value of a JavaScript expression, awaited, or an error's text if it throws. In it, `values` are the other arguments."""
         return self._ask(self.path + "/execute/async", {"args": [list(values)], "script": SCRIPT.format(script=script)})
 
     def authenticator(self, **more):
@@ -131,8 +131,8 @@ class Firefox:
 
 
 def attended(kind, port, act):
-    """What an act does with a headless browser of its own. Where that never answers an order of its driver, the act is tried once
-    more, with another browser, and that is told."""
+    """Runs an act with its own headless browser and returns its result. If the browser never answers an order of its driver, the act is
+    tried once more, with another browser, and that is reported."""
     for is_last in (False, True):
         browser = kind(port)
         try:

@@ -1,4 +1,4 @@
-"""What `load` does: visitors whose devices `cryptography` plays, as in the tests of python/, in processes of their own."""
+"""The program of `load`: visitors whose devices are played by `cryptography`, as in the tests of python/, in their own processes."""
 import http.client
 import json
 import multiprocessing
@@ -22,12 +22,12 @@ ORIGIN = "http://localhost:8080"
 PORTS = [8771, 8772, 8773, 8774]
 VISITORS = 64
 CLIENTS = 4
-"""How many processes the visitors have."""
+"""The number of processes for the visitors."""
 
 
 class Visitor:
-    """A visitor with one device and one cookie; `counts` are the counters of the sign-ins that were told as accepted. The
-    devices of every other visitor have no counter: they sign in with 0, so nothing but the session tells a replay."""
+    """A visitor with one device and one cookie; `counts` are the counters of the sign-ins that were answered as accepted. The devices of
+    every other visitor have no counter: they sign in with 0, so only the session shows a replay."""
 
     def __init__(self, number):
         self.name, self.cookie, self.counts = f"visitor {number}", None, []
@@ -58,9 +58,9 @@ class Visitor:
         return cookie, self.device.sign_in(options, self.user)
 
     def signs_in(self, ports, told, is_copied):
-        """One sign-in, whose response is sent three times at once: how often it was accepted, whether one of the three was
-        not answered, and the times of the accepted ones. With a key that was copied, two responses in two sessions over
-        one counter, each three times."""
+        """One sign-in, whose response is sent three times at once. Returns how often it was accepted, whether one of the three was not
+        answered, and the times of the accepted ones. With a copied key, two responses in two sessions over one counter, each three
+        times."""
         try:
             responses = [self.response(random.choice(ports))]
             if is_copied:
@@ -90,7 +90,7 @@ class Visitor:
 
 
 def visits(visitors, ports, until, is_copied):
-    """What these visitors were told, and what they keep, each in a thread until this time."""
+    """The answers that these visitors got, and what they keep, each in a thread until this time."""
     told = []
 
     def visit(visitor):
@@ -111,7 +111,7 @@ def client(visitors, ports, until, is_copied, answers):
 
 
 def phase(visitors, ports, seconds, is_copied, kill):
-    """What the visitors were told who sign in for so many seconds, with `kill` called each second."""
+    """The answers to visitors who sign in for this many seconds, with `kill` called each second."""
     until = time.time() + seconds
     clients = []
     for first in range(CLIENTS):
@@ -161,7 +161,7 @@ def request_times(address):
 
 
 def stored(address, visitors):
-    """The counter of each visitor's row."""
+    """The counter in each visitor's row."""
     connection = psycopg2.connect(address)
     cursor = connection.cursor()
     for visitor in visitors:

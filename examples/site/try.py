@@ -1,4 +1,4 @@
-"""What `try` does in the browser, over each storage that it is given."""
+"""The program of `try` in the browser, over each storage that it gets."""
 import json
 import os
 import sqlite3
@@ -20,7 +20,7 @@ from garvoeng.broker import IDLE  # noqa: E402
 from garvoeng.sql import LIFETIME, SqlServer  # noqa: E402
 
 PICTURE = os.environ.get("PICTURE")
-"""Where a picture of the page goes, if anywhere."""
+"""Where to put a picture of the page, if anywhere."""
 PORT, DRIVER = 8766, 8767
 ORIGIN = f"http://localhost:{PORT}"
 passed = failed = 0
@@ -33,7 +33,7 @@ def see(what, is_so):
 
 
 def tries_rsa(name, packed):
-    """An RSA key, which no browser here makes: `cryptography` plays the browser and its authenticator."""
+    """An RSA key, which no browser here makes, so `cryptography` plays the browser and its authenticator."""
     def new_visitor():
         return urllib.request.build_opener(urllib.request.HTTPCookieProcessor())
 
@@ -58,7 +58,7 @@ def tries_rsa(name, packed):
 
 
 def tries_many(name):
-    """Nine passkeys of one account, each signed in with by name and without."""
+    """Nine passkeys of one account. Each signs in with and without a name."""
     visitor = urllib.request.build_opener(urllib.request.HTTPCookieProcessor())
 
     def post(path, body):
@@ -79,7 +79,7 @@ def tries_many(name):
 
 
 def tries_bodies(name):
-    """What is no request of the page: answered by 400, and by no trace."""
+    """Bodies that are not requests of the page: answered with 400, and without a trace."""
     deep = b'{"name":' + b"[" * 20_000 + b"]" * 20_000 + b"}"
     bodies = [b"[]", b"null", b"7", b'"a"', b"", b"{", b"\xff", deep, b'{"name":[]}', b'{"name":{}}', b'{"name":7}',
               b'{"name":"\\u0000"}', b'{"name":"\\ud800"}', b'{"name":"' + b"a" * 65 + b'"}', b'{"id":null}']
@@ -97,7 +97,7 @@ def tries_bodies(name):
 
 
 def in_rows(address, statement, *values):
-    """The first value of a statement on the rows of a database, where it has one."""
+    """The first value from a statement on the rows of a database, if there is one."""
     with SqlServer(Server("localhost", [ORIGIN]), connect_to(address)).transaction() as rows:
         found = rows.run(statement, *values)
         return found.fetchone()[0] if found.description else None
@@ -111,11 +111,11 @@ for word; do
 done
 exec "{}" "$@"
 """
-"""A program whose sessions end after a second."""
+"""A program whose sessions end after one second."""
 
 
 def with_program(site, address, program):
-    """The site, which is started again with this program where it has one."""
+    """The site, restarted with this program if it has one."""
     if not address.startswith("program:"):
         return site
     ended(site)
@@ -127,7 +127,7 @@ def with_program(site, address, program):
 
 
 def with_short_sessions(site, address):
-    """The site, where it has the program, whose sessions are short then."""
+    """The site; if it has the program, its sessions are short."""
     short = Path(address.removeprefix("program:") + "-short")
     if address.startswith("program:"):
         short.write_text(SHORT.format(PROGRAM))
@@ -136,7 +136,7 @@ def with_short_sessions(site, address):
 
 
 def end_sessions(address):
-    """All that begun at a site with short sessions have ended."""
+    """Ends all that began at a site with short sessions."""
     if address.startswith("program:"):
         time.sleep(2)
     else:
@@ -144,7 +144,7 @@ def end_sessions(address):
 
 
 def emptied(address):
-    """The address of files that are not there; of a database as it is."""
+    """The address of files, which are deleted; the address of a database as it is."""
     if not address.startswith("postgres"):
         path = Path(address.removeprefix("program:"))
         for file in path.parent.glob(path.name + "*"):
@@ -153,7 +153,7 @@ def emptied(address):
 
 
 def tries(browser, address, name, is_whole):
-    """All that a visitor does in a browser; with `is_whole` what needs none, too."""
+    """Everything that a visitor does in a browser; with `is_whole`, also what needs no browser."""
     def run(script):
         return browser.run(script)
 

@@ -1,4 +1,4 @@
-"""A site in Starlette whose visitors sign in by passkeys: uvicorn passkey_site:app --port 8003"""
+"""A site in Starlette whose visitors sign in with passkeys: uvicorn passkey_site:app --port 8003"""
 import sqlite3
 from garvoeng import Server
 from garvoeng.sql import SqlServer
