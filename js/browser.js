@@ -22,7 +22,7 @@ function optionsOf(kind, options) {
   return { ...own, user: { ...user, id: bytesOf(user.id) }, excludeCredentials: listed(excludeCredentials) };
 }
 
-// Results of extensions, some of which have bytes.
+// The results of extensions, some of which contain bytes.
 function resultsOf(value) {
   if (value instanceof ArrayBuffer) return textOf(value);
   if (typeof value !== "object" || value === null || Array.isArray(value)) return value;
@@ -40,7 +40,7 @@ function responseOf(credential) {
 
 let pending = null;
 
-// A browser takes one call at a time: a new one ends the one that waits, as that of autofill.
+// A browser takes one call at a time: a new one ends the one that waits, such as that of autofill.
 async function credentialBy(call, publicKey, { signal, mediation }) {
   const controller = new AbortController(), end = () => controller.abort(signal.reason);
   pending?.abort(new DOMException("another call began", "AbortError"));
@@ -60,7 +60,7 @@ export const register = async (options, { signal, mediation } = {}) => credentia
 export const signIn = async (options, { signal, mediation } = {}) => credentialBy("get", optionsOf("Request", options), { signal, mediation });
 export const canAutofill = async () => (await globalThis.PublicKeyCredential?.isConditionalMediationAvailable?.()) === true;
 
-// Whether the browser has this call, which tells the authenticator what the site says.
+// Whether the browser has this call, which passes the site's values to the authenticator.
 async function signalled(call, told) {
   if (globalThis.PublicKeyCredential?.[call] === undefined) return false;
   await PublicKeyCredential[call](told);

@@ -14,7 +14,7 @@ export function passkeys(server, options) {
     return reply.code(status).send(body);
   }
 
-  // The core reads bodies itself: of these paths alone, since a plugin's parsers are its own.
+  // The core reads bodies itself, only for these paths: a plugin has its own parsers.
   async function plugin(app) {
     app.removeAllContentTypeParsers();
     app.addContentTypeParser("*", (request, payload, done) => done(null, payload));

@@ -16,12 +16,12 @@ const ZERO = LETTERS.charCodeAt(0);
 const SEXTETS = new Uint8Array(256).fill(255);
 for (let index = 0; index < 64; index++) SEXTETS[LETTERS.charCodeAt(index)] = index;
 const CODES = Uint8Array.from(LETTERS, (letter) => letter.charCodeAt(0));
-// What an array of bytes is, whatever members a class of the host's has.
+// The true properties of a byte array, whatever members a class of the host's has.
 const [bufferOf, offsetOf, lengthOf] = ["buffer", "byteOffset", "byteLength"].map((name) => Object.getOwnPropertyDescriptor(Object.getPrototypeOf(Uint8Array.prototype), name).get);
-// Node's buffers are ten times as fast; a bundler's may not have this form.
+// Node's buffers are ten times as fast; a bundler's may lack this form.
 const { Buffer } = globalThis, hasBase64url = Buffer?.isEncoding?.("base64url") === true;
 
-// The codes of the letters of a value.
+// The character codes of a value's letters.
 function codesOf(value) {
   const { length } = value, codes = new Uint8Array(Math.ceil((length * 4) / 3)), whole = length - (length % 3);
   let at = 0, made = 0;
@@ -52,7 +52,7 @@ function sizeOf(text) {
   return (text.length * 3) >> 2;
 }
 
-// Writes the bytes of a text from an offset on; whether it is base64url in its one spelling.
+// Writes the bytes of a text from an offset on. Returns whether it is canonical base64url.
 function readInto(value, made, text) {
   const { length } = text, whole = length - (length % 4);
   let wrong = length % 4 === 1 ? 255 : 0, at = 0;
@@ -64,7 +64,7 @@ function readInto(value, made, text) {
     value[made++] = (b << 4) | (c >> 2);
     value[made++] = (c << 6) | d;
   }
-  // Two or three letters are left, whose last bits no byte has: they are 0.
+  // Two or three letters are left. Their last bits belong to no byte and must be 0.
   if (length - at >= 2) {
     const first = text.charCodeAt(at), second = text.charCodeAt(at + 1), third = length - at === 3 ? text.charCodeAt(at + 2) : ZERO;
     const a = SEXTETS[first & 255], b = SEXTETS[second & 255], c = SEXTETS[third & 255];
@@ -100,7 +100,7 @@ function textIn(value, name) {
   return text;
 }
 
-// What the standard fixes of a response beside its parts.
+// Checks what the standard requires of a response besides its parts.
 function checkEnvelope(response) {
   if (textIn(response, "id") !== textIn(response, "rawId")) throw new BadInput("id is not rawId");
   if (textIn(response, "type") !== "public-key") throw new BadInput("type is not public-key");

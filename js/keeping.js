@@ -18,7 +18,7 @@ export function now() {
   return Math.floor(Date.now() / 1000);
 }
 
-// What the store answered, where that is an answer.
+// The store's answer, if it is a valid one.
 function answered(call, told, isAnswer, wanted) {
   if (!isAnswer(told)) throw new StoreFailed(`the store's ${call} answered ${shown(told)}, and not ${wanted}`);
   return told;
@@ -61,25 +61,25 @@ export function keepingOver(randomBytes) {
       return found !== null && found.kind === kind && found.number === number && found.endsAt > now() ? found : null;
     }
 
-    // The open session of this number and kind, or null.
+    // The open session with this number and kind, or null.
     async #opened(number, kind, read) {
       const found = isNumber(number) ? await this.#session(number, kind) : null;
       return found === null ? null : ofSession(number, () => openIn(read, found.data));
     }
 
-    // The row of this id, or null.
+    // The row with this id, or null.
     async #row(id) {
       const found = (await this.#store.row(id.slice())) ?? null;
       return found === null ? null : ofRow(id, () => soundIn(found));
     }
 
-    // That a verdict was written; or the step that refuses what came meanwhile.
+    // Checks that a verdict was written, or throws the step that refuses it.
     #checkWritten(call, isRegistration, told, meanwhile) {
       answered(call, told, (one) => [0, 1, 15].includes(one), "0, 1 or 15");
       if (told !== 0) throw new Refused(isRegistration, told, told === 1 ? CLOSED : meanwhile);
     }
 
-    // The credentials of an account that sign in.
+    // The credentials of an account that may sign in.
     async #own(user) {
       return (await this.rows(user)).filter(({ retired }) => !retired);
     }
@@ -114,7 +114,7 @@ export function keepingOver(randomBytes) {
       return soundOf(found, (row) => ofRow(isBytes(row?.id) ? row.id : new Uint8Array(0), () => soundIn(row)), this.#logger);
     }
 
-    // What a change of one credential, and of an account if one is named, answered.
+    // The answer for a change of one credential, and of an account if one is named.
     async #changed(call, id, user) {
       return answered(call, await this.#store[call](checkId(id), user === null ? null : checkUser(user)), isFlag, "true or false");
     }

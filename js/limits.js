@@ -38,7 +38,7 @@ const TRANSPORT = /^[a-z0-9-]{1,32}$/;
 const MAX_TRANSPORTS = 16;
 const NO_ALGORITHMS = "algorithms are ES256 (-7), EDDSA (-8) and RS256 (-257)";
 
-// What kind of typed array a value is, of whichever realm; undefined of any other value.
+// The kind of typed array that a value is, from any realm; undefined for any other value.
 const kindOfArray = Object.getOwnPropertyDescriptor(Object.getPrototypeOf(Uint8Array.prototype), Symbol.toStringTag).get;
 
 export function isBytes(value) {
@@ -111,7 +111,7 @@ export function checkWhole(value, what, least, most = Number.MAX_SAFE_INTEGER) {
   return value;
 }
 
-// A domain as browsers write it: 1 to 253 characters, and no IP address (WebAuthn Level 2, section 4).
+// A domain as browsers write it: 1 to 253 characters, and not an IP address (WebAuthn Level 2, section 4).
 function checkRpId(rpId) {
   if (typeof rpId === "string" && /^[a-z]+:\/\//i.test(rpId)) throw new BadInput(`the rp id is ${shown(rpId)}: write its domain alone, as "example.com"`);
   if (typeof rpId === "string" && /:[0-9]*$/.test(rpId))
@@ -121,7 +121,7 @@ function checkRpId(rpId) {
   if (/^[0-9]+$/.test(rpId.split(".").at(-1))) throw new BadInput("the rp id is an IP address");
 }
 
-// The host of an origin as browsers write it (RFC 6454, section 6.2); empty of an app's.
+// The host of an origin as browsers write it (RFC 6454, section 6.2); empty for an app's.
 function hostOf(origin) {
   if (typeof origin !== "string") throw new BadInput(`an origin is ${shown(origin)}: write a text, as "https://example.com"`);
   if (ANDROID.test(origin)) return "";

@@ -2,15 +2,15 @@
 import { BYTES } from "./layout.js";
 import { NoMemory } from "./errors.js";
 
-// The version of c/passkey.h that this package calls; it stands in the calls' names.
+// The version of c/passkey.h that this package calls; it is part of the calls' names.
 const ABI_VERSION = 5;
-// The most bytes that a call lends and its rooms have: by them the module's memory stays below 64 MB.
+// The most bytes that a call lends and its buffers have: this keeps the module's memory below 64 MB.
 export const MOST_LENT = 4 * 1024 * 1024;
-// A module whose memory has grown beyond this is let go after the call, so that no later one has much to overwrite.
+// A module whose memory has grown beyond this is dropped after the call, so that later calls have little to overwrite.
 const MOST_KEPT = 512 * 1024;
 const FIRST_SIZE = 1280;
-// The bytes of stack that a module has at first, which are enough for each call. One that needed more would trap, and is made
-// again with the whole stack. So there is less to overwrite.
+// The bytes of stack that a module has at first, which suffice for each call. A call that needed more would trap, and is repeated with the
+// whole stack. So there is less to overwrite.
 const USUAL_STACK = 32 * 1024;
 
 function isTrap(error) {
@@ -37,7 +37,7 @@ export class Image {
     this.bytes = this.view = null;
   }
 
-  // Room after what is used already, at a multiple of 8: where it begins.
+  // Returns where there is room after what is used already, at a multiple of 8.
   #append(size) {
     const at = Math.ceil(this.used / 8) * 8;
     this.used = at + size;
@@ -138,7 +138,7 @@ export class Module {
   #heap = 0;
   #heapEnd = 0;
   #owner = null;
-  // Whether the last calls, and what is done after them, came to their end.
+  // Whether the last calls, and the work after them, were completed.
   #isWhole = true;
 
   constructor(compiled) {
@@ -146,7 +146,7 @@ export class Module {
     this.#start();
   }
 
-  // The stack lies lowest, then data, then the heap.
+  // The stack is lowest, then data, then the heap.
   #start() {
     this.#exports = new WebAssembly.Instance(this.#compiled, {}).exports;
     if (this.#exports.passkey_abi_version() !== ABI_VERSION) throw new Error("passkey.wasm has another version than this package");
@@ -158,7 +158,7 @@ export class Module {
     this.#begin(USUAL_STACK);
   }
 
-  // The stack grows down to address 0, beneath which there is nothing to write to: so it may begin anywhere.
+  // The stack grows down to address 0, and nothing below it can be written: so it may begin anywhere.
   #begin(stack) {
     this.#stack = stack;
     this.#exports.__stack_pointer.value = BigInt(stack);
@@ -263,7 +263,7 @@ export class Module {
     this.#isWhole = true;
   }
 
-  // Calls have returned: the stack and what was used of the heap are overwritten.
+  // The calls have returned: the stack and the used part of the heap are overwritten.
   #overwrite() {
     this.#owner = null;
     for (const block of this.#blocks.splice(0)) this.#exports.free(block);
@@ -273,7 +273,7 @@ export class Module {
     view.setUint32(this.#heapEnd, 0, true);
   }
 
-  // Calls were cut off: all is as it was at first.
+  // The calls were cut off: all is reset to the first state.
   #putBack() {
     this.#owner = null;
     this.#blocks = [];

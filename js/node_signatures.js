@@ -3,8 +3,8 @@ import { createPublicKey, verify } from "node:crypto";
 import { EDDSA, ES256, RS256 } from "./limits.js";
 import { toText } from "./forms.js";
 
-// Making a key's object takes most of a verification of ES256, so those that were used last are kept: at most so many, by the algorithm and
-// the exact bytes of the key.
+// Making a key's object takes most of a verification of ES256, so the most recently used ones are kept, up to this number, by the algorithm
+// and the exact bytes of the key.
 const MOST = 4_096;
 /** The keys' objects, with the least recently used one first. */
 export const kept = new Map();

@@ -37,7 +37,7 @@ export function checkAttestation(value) {
   return checkOneOf(value, "attestation", ATTESTATIONS);
 }
 
-// True is `required`; a text is itself.
+// True means `required`; a text stands for itself.
 function requirementOf(value, what, ifFalse) {
   checkOneOf(value, what, REQUIREMENTS);
   return value === true ? "required" : value === false ? ifFalse : value;
@@ -53,7 +53,7 @@ export function residentKeyOf(value) {
   return requirementOf(value, "residentKey", "discouraged");
 }
 
-// What both kinds may have more: `timeout` in milliseconds, `hints`, and `extensions`, which go to the page as they are.
+// What both kinds may also have: `timeout` in milliseconds, `hints`, and `extensions`, which go to the page unchanged.
 function more(how) {
   const { timeout, hints, extensions } = ownOf(how), made = {};
   if (timeout !== undefined) made.timeout = checkWhole(timeout, "timeout, in milliseconds,", 1, 0xffffffff);

@@ -83,8 +83,8 @@ class Run {
     if (from < piece.length) this.#pieces.push(piece.subarray(from));
   }
 
-  // Each answer goes to the first that waits, up to one that is none of its own: then the program is ended, so that no answer is
-  // ever another's.
+  // Each answer goes to the first call that waits. If one is not the answer to its own call, the program is ended, so that no call ever
+  // gets another's answer.
   #answered(line) {
     if (this.#wrong !== null) return;
     const [first] = this.#asked, answer = answerIn(line);
@@ -148,7 +148,7 @@ export class Program {
     this.#log = log;
   }
 
-  // A run that has the file: one that ends is waited for.
+  // A run that has the file: if it is ending, its end is awaited.
   async #running() {
     while (this.#run !== null && !this.#run.isRunning) await this.#ending(this.#run);
     this.#run ??= new Run(this.#words, this.#timeout, this.#log);

@@ -2,7 +2,7 @@
 import { BadInput } from "./errors.js";
 import { checkFunction, optionsIn, shown } from "./limits.js";
 
-// An address of IPv6 as its eight groups of hexadecimal digits; null of what is none.
+// An IPv6 address as its eight groups of hexadecimal digits; null if it is not one.
 function groupsOf(text) {
   if (!/^[0-9a-f:.]*:[0-9a-f:.]*$/i.test(text)) return null;
   try {
@@ -13,13 +13,13 @@ function groupsOf(text) {
   }
 }
 
-// An address of IPv4 in groups of IPv6; null where they are of another.
+// An IPv4 address in groups of IPv6; null if they are of another.
 function mappedIn(groups) {
   if (groups.slice(0, 5).some((group) => group !== "0") || groups[5] !== "ffff") return null;
   return groups.slice(6).flatMap((group) => [parseInt(group, 16) >> 8, parseInt(group, 16) & 255]).join(".");
 }
 
-// What an address counts as; undefined where it is not limited. A host's own word for a visitor counts as it is.
+// What an address counts as; undefined if it is not limited. A host's own name for a visitor counts as it is.
 function counted(address) {
   if (typeof address !== "string" || address === "") return undefined;
   const [plain] = address.split("%"), groups = groupsOf(plain), one = groups === null ? plain : mappedIn(groups);

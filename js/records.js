@@ -5,7 +5,7 @@ import {
   ALGORITHMS, FORMATS, MAX_COUNT, checkAlgorithms, checkBytes, checkFlag, checkId, checkKey, checkUser, checkWhole, memberOf, optionsIn, ownOf, shown, transportsIn,
 } from "./limits.js";
 
-// The members of an object in JSON, or of its text.
+// The members of a JSON object, or of its text.
 function objectOf(value, what) {
   const made = typeof value === "string" ? parsed(value, what) : value;
   if (typeof made !== "object" || made === null || Array.isArray(made)) throw new BadInput(`the ${what} is not an object`);
@@ -32,7 +32,7 @@ function wholeIn(value, name, most) {
 
 const bytesIn = (value, name) => fromText(value[name], name);
 
-// What may be null, and may not be left out.
+// A member that may be null but may not be left out.
 const orNull = (read) => (value, name, ...more) => (value[name] === null ? null : read(value, name, ...more));
 const bytesOrNull = orNull(bytesIn), flagOrNull = orNull(flagIn), wholeOrNull = orNull(wholeIn);
 
@@ -140,7 +140,7 @@ export class Credential {
 }
 marked(Credential, "Credential");
 
-// A value of a class, of members that are in their limits.
+// A value of a class, from members that are in their limits.
 function madeOf(kind, members) {
   return Object.freeze(Object.assign(Object.create(kind.prototype), members));
 }
@@ -187,7 +187,7 @@ export class KeptCredential extends Credential {
 }
 marked(KeptCredential, "KeptCredential");
 
-// What the authenticator said, in JSON and back.
+// What the authenticator reported, to JSON and back.
 const toldOf = ({ userVerified, backedUp, flags, extensions }) => ({ user_verified: userVerified, backed_up: backedUp, flags, extensions: toText(extensions) });
 const toldIn = (value) => ({ userVerified: flagIn(value, "user_verified"), backedUp: flagIn(value, "backed_up"), flags: wholeIn(value, "flags", 255),
                              extensions: bytesIn(value, "extensions") });

@@ -26,7 +26,7 @@ function found(value) {
   return value ?? null;
 }
 
-// A session of its own class, or null where none is open. A text is none: the page's visitor may have written it.
+// A session of its own class, or null if none is open. A text counts as none, because the page's visitor may have written it.
 function sessionOf(session, kind) {
   if (typeof session === "string") return null;
   if (found(session) === null || session instanceof kind) return found(session);
@@ -34,7 +34,7 @@ function sessionOf(session, kind) {
   throw new BadInput(`the session is ${other === undefined ? shown(session) : `a ${other.name}`}, and no ${kind.name}: ${kind.name}.fromJSON(..) reads one that was kept as JSON`);
 }
 
-// A credential that was found, whose numbers are in their limits, or null.
+// The credential that was found, with its numbers in their limits, or null.
 function credentialOf(credential) {
   if (found(credential) === null) return null;
   const stored = credentialIn(credential);
@@ -42,7 +42,7 @@ function credentialOf(credential) {
   return stored;
 }
 
-// What the library says of a credential's key.
+// What the library reports of a credential's key.
 const KEY_LIMITS = [104, 105, 106];
 /** The class `Server` over a module, random bytes and signatures, which are Node's or WebCrypto's. `moduleOf()` returns the `Module` whose
  *  calls are made. */
@@ -164,8 +164,8 @@ export function serverOver(moduleOf, randomBytes, isValid) {
       return { rpId: this.rpId, userId: toText(checkUser(user)), name: checkText(userName, "userName"), displayName: checkText(displayName, "displayName") };
     }
 
-    // The last answer: where the first one is that of the signature's step, the signature is verified, and where it is valid the
-    // response is judged again with what was verified. While a promise is awaited, nothing of the call is in the module.
+    // The last answer: if the first one is that of the signature's step, the signature is verified, and if it is valid, the response is
+    // verified again with it. While a promise is awaited, nothing of the call is in the module.
     async #judged(module, isRegistration, image, judge, signatureStep, ask) {
       try {
         const first = module.within(() => {

@@ -10,14 +10,14 @@ const CHALLENGE = 32;
 const TIMEOUT = 60_000;
 const ATTACHMENTS = { securityKey: "cross-platform", localDevice: "platform", remoteDevice: "cross-platform" };
 const HINTS = { securityKey: "security-key", localDevice: "client-device", remoteDevice: "hybrid" };
-// The steps at which another rp id of a list may still be the response's, and those of a signature that is not valid.
+// The steps at which another rp id of a list may still match the response, and those for a signature that is not valid.
 const OTHER_RP_ID = ["G8", "W11"];
 const NOT_VALID = ["G13", "W14"];
 const ANY_USER = new Uint8Array(1);
 
 export const supportedCOSEAlgorithmIdentifiers = ALGORITHMS;
 
-// A challenge of the caller's, as bytes or as a text whose UTF-8 it is; a new one if there is none.
+// The caller's challenge, as bytes or as a text in UTF-8; a new one if there is none.
 function challengeOf(challenge) {
   const bytes = challenge === undefined ? randomBytes(CHALLENGE) : typeof challenge === "string" ? new TextEncoder().encode(challenge) : checkBytes(challenge, "challenge");
   if (bytes.length !== CHALLENGE) throw new BadInput(`challenge has ${bytes.length} bytes: write ${CHALLENGE} random ones, or none`);
@@ -61,7 +61,7 @@ export async function generateAuthenticationOptions(options) {
            timeout: checkWhole(timeout, "timeout", 1), userVerification: checkText(userVerification, "userVerification"), extensions };
 }
 
-// Those of the list that the steps know, in its order.
+// The items of the list that the steps know, in its order.
 function algorithmsOf(ids) {
   const found = Array.isArray(ids) ? ids.filter((id) => ALGORITHMS.includes(id)) : [];
   if (found.length === 0) throw new BadInput(`supportedAlgorithmIDs has none of ${ALGORITHMS.join(", ")}`);
@@ -76,7 +76,7 @@ function seen(response) {
   }
 }
 
-// The challenge that is expected, as bytes: where the caller has a function, that of the response once the function answers true.
+// The expected challenge, as bytes: if the caller gives a function, the response's challenge once the function returns true.
 async function expectedChallengeOf(expected, response) {
   if (typeof expected !== "function") return fromText(expected, "expectedChallenge");
   const { challenge } = seen(response), isExpected = await expected(checkText(challenge, "the response's challenge"));
@@ -91,7 +91,7 @@ function textsOf(value, what) {
   return texts.map((text) => checkText(text, what));
 }
 
-// What `judge` answers of the first rp id that is the response's; the origins are those that a page of it may have.
+// The result of `judge` for the first rp id that is the response's; the origins are those that a page of it may have.
 async function judgedBy(expectedRPID, expectedOrigin, judge) {
   const ids = textsOf(expectedRPID, "expectedRPID"), origins = textsOf(expectedOrigin, "expectedOrigin");
   for (const [at, rpID] of ids.entries()) {
@@ -146,7 +146,7 @@ export async function verifyRegistrationResponse(options) {
   }
 }
 
-// A credential of the caller's, and the session's user: whose user handle is known is judged by it, and else it is not looked at.
+// The caller's credential, and the session's user: if the user handle is known, it is checked; otherwise it is not looked at.
 function storedOf(credential, response) {
   const { id, publicKey, counter, webauthnUserID } = Object(credential), handle = response?.response?.userHandle ?? null;
   const user = webauthnUserID !== undefined ? fromText(webauthnUserID, "webauthnUserID") : handle !== null ? fromText(handle, "userHandle") : ANY_USER;

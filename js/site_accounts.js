@@ -21,7 +21,7 @@ export class Visitor {
   constructor(members) {
     const { user, name = null, at = null, credential = null, number = null } = optionsIn(members, "Visitor", ["user", "name", "at", "credential", "number"]);
     Object.assign(this, { user, name, at, credential });
-    // What only this visitor may have is in no log.
+    // A secret of this visitor is kept out of logs.
     Object.defineProperty(this, "number", { value: number });
     Object.freeze(this);
   }
@@ -47,7 +47,7 @@ export function functionOf(accounts, name) {
   return found === null ? null : (...words) => found.apply(accounts, words);
 }
 
-// The names of what a value has, itself or by its class.
+// The names of a value's members, its own or its class's.
 function namesIn(value) {
   const names = [];
   for (let one = value; one !== null && Object.getPrototypeOf(one) !== null; one = Object.getPrototypeOf(one)) names.push(...Object.getOwnPropertyNames(one));

@@ -13,14 +13,14 @@ const PURPOSE = "garvoeng registration 1 ";
 const MOST_LOGGED = 100;
 const HMAC = { name: "HMAC", hash: "SHA-256" };
 const SESSION_CLOSED = "the session is not open for registration";
-// What is logged, and what the visitor is answered.
+// What is logged, and what the visitor gets.
 const FAULTS = [
   [RowDamaged, 500, "what is stored is damaged"], [SessionDamaged, 500, "what is stored is damaged"], [StoreFailed, 503, "the site's storage did not answer: try again"], [HostFault, 500],
 ];
 const utf8 = (text) => new TextEncoder().encode(text);
 const isSame = (one, other) => one !== null && other !== null && toText(one) === toText(other);
 
-// The request is answered so.
+// Carries the answer to the request.
 class Told extends Error {
   constructor(status, text, headers = []) {
     super(text);
@@ -29,7 +29,7 @@ class Told extends Error {
   }
 }
 
-// What a log may have of a visitor's word: nothing that ends a line.
+// A visitor's text in a form fit for a log, in which nothing ends a line.
 function logged(text) {
   const front = typeof text === "string" ? text.slice(0, MOST_LOGGED) : "";
   return isPrintable(front) ? front : "-";
@@ -114,7 +114,7 @@ export class Visit {
 
   #file(path) {
     const { type, text } = FILES[path], headers = [["Content-Type", `${type}; charset=utf-8`], ["X-Content-Type-Options", "nosniff"], ["Content-Security-Policy", this.#core.policy]];
-    // The page has its scripts with a slash at the end of its path and without one, whichever a framework takes.
+    // The page finds its scripts with and without a slash at the end of its path, whichever a framework takes.
     return { status: 200, headers, body: path === "" ? text.replaceAll('src="', `src="${this.#core.base}/`) : text };
   }
 
@@ -146,7 +146,7 @@ export class Visit {
     return functionOf(this.#core.accounts, name) !== null;
   }
 
-  // What a function of the site's answers; null without it.
+  // The result of one of the site's functions; null if there is none.
   async #ofSite(name, ...words) {
     const asked = functionOf(this.#core.accounts, name);
     if (asked === null) return null;
@@ -154,10 +154,10 @@ export class Visit {
     return name === "userOf" ? visitorIn(said) : answerOf(name, said);
   }
 
-  // Logs a refusal (docs/OPERATING.md), and tells the site.
+  // Logs a refusal (docs/OPERATING.md), and calls the site's function.
   async #refused(kind, session, error) {
     const said = error instanceof Refused ? `${error.name} ${error.step}` : "by the site";
-    // Who has the whole session has what the visitor has, so a log has its front.
+    // Whoever has the whole session could act as the visitor, so a log shows only its front.
     this.#log(`${kind} refused ${said} session ${logged((session ?? "").slice(0, 8))} credential ${logged(this.#said.id)} ` +
               `address ${logged(this.#request.address)}: ${error.text}`);
     try {
@@ -169,7 +169,7 @@ export class Visit {
 
   // ---- who is signed in
 
-  // Who is signed in by the core's own cookie.
+  // The visitor who is signed in by the core's own cookie.
   async #kept() {
     const number = this.#cookie(SIGNED_IN), found = number === null ? null : (await this.#store.signedIn(number)) ?? null;
     if (found === null) return null;
@@ -188,7 +188,7 @@ export class Visit {
     if (!this.#has("userOf")) return kept;
     const told = await this.#ofSite("userOf");
     if (told === null || kept === null || !isSame(kept.user, told.user)) return told;
-    // One that no passkey began is as old as the site says.
+    // A sign-in that no passkey began is as old as the site says.
     const times = [told.at, kept.credential === null ? null : kept.at].filter((at) => at !== null);
     return new Visitor({ ...told, at: times.length === 0 ? null : Math.max(...times), credential: kept.credential, number: kept.number });
   }
@@ -199,14 +199,14 @@ export class Visit {
     return visitor;
   }
 
-  // The visitor is signed in from now on; what the site adds to the answer.
+  // Signs the visitor in. Returns what the site adds to the answer.
   async #signsIn(user, accepted) {
     const more = await this.#ofSite("signedIn", user.slice(), accepted);
     await this.#keeps(user, accepted.credential.id);
     return more ?? {};
   }
 
-  // Keeps a sign-in in the place of the one that the visitor's cookie has; its number.
+  // Stores a sign-in in place of the one in the visitor's cookie. Returns its number.
   async #keeps(user, credential) {
     const number = await this.#store.keepSignIn(user, credential, this.#core.lifetime);
     if (typeof number !== "string" || number === "") throw new StoreFailed(`the store's keepSignIn answered ${shown(number)}, and not a number as text`);
@@ -236,8 +236,8 @@ export class Visit {
     return seal !== null && this.#core.crypto.subtle.verify("HMAC", await this.#key(), seal, utf8(PURPOSE + text));
   }
 
-  // The open registration of the visitor's cookie: its session, the account's name, and the number of the sign-in that began it. No session
-  // where there is none that this site gave.
+  // The open registration in the visitor's cookie: its session, the account's name, and the number of the sign-in that began it. The
+  // session is null if there is none that this site made.
   async #begun() {
     const [, session, told, code] = /^([^.]+)\.([^.]+)\.([^.]+)$/.exec(this.#cookie(REGISTRATION) ?? "") ?? [];
     if (session === undefined || !(await this.#isSeal(`${session}.${told}`, code))) return { session: null, name: "", number: null };
@@ -245,7 +245,7 @@ export class Visit {
     return { session, name, number };
   }
 
-  // The user handle and the name of who begins a registration, and the number of his sign-in, if he is signed in.
+  // The user handle and name for a registration that begins, and the number of the visitor's sign-in, if there is one.
   async #beginner() {
     const visitor = await this.visitor(), name = visitor?.name ?? nameIn(this.#said);
     if (visitor === null) {
@@ -257,7 +257,7 @@ export class Visit {
     return { user: visitor.user, name, number: visitor.number ?? (await this.#keeps(visitor.user, null)) };
   }
 
-  // A server that keeps sign-ins too looks at one in the transaction of the call.
+  // The sign-in for a server that stores sign-ins too, which checks it in the transaction of the call.
   #bound(number) {
     return number !== null && this.#store.looksUp ? { signIn: number } : {};
   }
@@ -270,7 +270,7 @@ export class Visit {
     return options;
   }
 
-  // What is refused meanwhile is logged, and told to the site.
+  // A refusal meanwhile is logged, and passed to the site.
   async #orRefused(kind, session, work) {
     try {
       return await work();
@@ -280,7 +280,7 @@ export class Visit {
     }
   }
 
-  // Whether the visitor is the one who began a registration: by this sign-in, or not signed in.
+  // Whether the visitor is the one who began a registration: with this sign-in, or not signed in.
   async #isBy(number) {
     const visitor = await this.visitor();
     return number === null ? visitor === null : visitor?.number === number;

@@ -12,7 +12,7 @@ import { CALLS, memoryOver } from "./site_stores.js";
 const OPTIONS = ["accounts", "store", "secret", "base", "fresh", "lifetime", "rateLimit", "trustedOrigins", "registration", "signIn", "models", "translate", "timeout", "logger"];
 const SERVER = ["registerBegin", "registerComplete", "authenticateBegin", "authenticateComplete", "rows", "retire", "delete", "abandon"];
 const LEAST_SECRET = 32;
-// A server that keeps nothing, by which the options of begins are tried once.
+// A server that keeps nothing, with which the options of begins are tried once.
 const Trial = serverOver(null, (size) => new Uint8Array(size), () => false);
 const OF_CORE = ["user", "exclude", "allow", "signIn"];
 
@@ -23,7 +23,7 @@ function secretOf(value) {
   return new Uint8Array(bytes);
 }
 
-// The page loads what the site has and nothing else, and stands in no frame but of `topOrigins`.
+// The page loads only the site's own files, and only the `topOrigins` may have it in a frame.
 function policyOf(topOrigins) {
   return "default-src 'none'; script-src 'self'; connect-src 'self'; style-src 'self'; img-src 'self'; font-src 'self'; base-uri 'none'; " +
          `form-action 'none'; frame-ancestors ${topOrigins.join(" ") || "'none'"}`;
@@ -34,7 +34,7 @@ function baseOf(value) {
   return value;
 }
 
-// What a begin takes beside the account. It is tried once, so that a mistake of the site does not show at its visitors.
+// The parameters of a begin besides the account. They are tried once, so that a site's mistake shows before its visitors meet it.
 function howOf(value, name, call, ...words) {
   for (const one of OF_CORE) if (Object.hasOwn(Object(value), one)) throw new BadInput(`${one} of ${name} is the core's`);
   new Trial("localhost", ["http://localhost"])[call](...words, value);

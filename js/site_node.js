@@ -3,7 +3,7 @@ import { BadInput } from "./errors.js";
 import { isBytes, shown } from "./limits.js";
 import { HostFault, MAX_BODY } from "./site_requests.js";
 
-// A body that the host has read: its text or bytes, or what they say.
+// A body that the host has read: its text or bytes, or the value in them.
 function bodyReadBy({ body, rawBody }) {
   const [read] = [rawBody, body].filter((one) => typeof one === "string" || isBytes(one));
   if (read !== undefined) return read;
@@ -12,7 +12,7 @@ function bodyReadBy({ body, rawBody }) {
   return body;
 }
 
-// What is too long is read on and not kept, so that the visitor is answered.
+// A body that is too long is read to its end but not kept, so that the visitor gets an answer.
 function bodyIn(stream) {
   return new Promise((resolve, reject) => {
     const parts = [];
@@ -28,7 +28,7 @@ function bodyIn(stream) {
   });
 }
 
-// A parser that did not read the body may have left an empty `body`, and one of Fastify's a stream.
+// A parser that did not read the body may have left an empty `body`, and Fastify's may have left a stream.
 async function bodyOf(request, host) {
   const stream = typeof host.body?.on === "function" ? host.body : request;
   const wasRead = typeof stream.on !== "function" || stream.readableDidRead || stream.readableEnded;

@@ -8,14 +8,14 @@ export const MAX_BODY = 128 * 1024;
 export const SIGNED_IN = "garvoeng";
 export const REGISTRATION = "garvoeng_registration";
 export const SIGN_IN = "garvoeng_sign_in";
-// The most characters of a cookie that is read.
+// The longest cookie that is read, in characters.
 const MAX_COOKIE = 4096;
-// The most digits of a number: no request has more of its own.
+// The most digits of a number: no request needs more.
 const MAX_DIGITS = 64;
 const MAX_NAME = 64;
 const PRINTABLE = /^(?:[^\p{C}\p{Z}]| )+$/u;
 const NAME = /^(?=.*[^\u200c\u200d])(?:[^\p{C}\p{Z}]|[ \u200c\u200d]){1,64}$/u;
-// The strings, the signs and the other words of a text of JSON.
+// The strings, the signs and the other words of a JSON text.
 const WORDS = /"(?:[^"\\]|\\.)*"|[{}[\],:]|[^\s{}[\],:"]+/g;
 
 /** The host has made it impossible to answer. */
@@ -60,7 +60,7 @@ export function checkHead(headers) {
   if (Number(length) > MAX_BODY) throw new BadInput("the body is too long");
 }
 
-// Refuses what JSON.parse passes over: a member that stands twice, and numbers without end.
+// Refuses what JSON.parse accepts: a repeated member, and numbers without end.
 function checkMembers(text) {
   const open = [];
   let isName = false;

@@ -24,9 +24,9 @@ const TABLES = [
   "create index garvoeng_session_by_expiry on garvoeng_session (expires_at)",
   `insert into garvoeng_version values (${VERSION})`,
 ];
-// The SQLSTATE of a transaction that may be made again: serialization failure and deadlock.
+// The SQLSTATE values after which a transaction may be repeated: serialization failure and deadlock.
 const RETRIED = ["40001", "40P01"];
-// How often a transaction is made where another one is in its way.
+// How often a transaction is tried if another one is in its way.
 const TRIES = 8;
 const HOOKS = ["onRegistered", "onSignedIn", "onErased"];
 const COLUMNS = "id, user_handle, public_key, sign_count, backup_eligible, retired, transports, backed_up, aaguid, created_at, used_at";
@@ -35,10 +35,10 @@ const flagOf = (value) => (value === null ? null : Number(value));
 const isTrue = (value, name) => (value === null ? null : checkWhole(value, name, 0, 1) === 1);
 const timeOf = (value) => (value === null ? null : Number(value));
 
-// The number of a session, or null where a text is none.
+// The number of a session, or null if a text is not one.
 const numberOf = (session) => (isNumber(checkSession(session)) ? session : null);
 
-// The member that only a session of one kind has; the last is that of a sign-in that is kept.
+// The member that only sessions of one kind have; the last is that of a kept sign-in.
 const KINDS = ["algorithms", "allow", "signed_in"];
 
 // The credential of a row. Throws `RowDamaged`.
@@ -57,14 +57,14 @@ function credentialOf(row) {
   });
 }
 
-// What gives a client: a pool's `connect`, or a function.
+// The function that gives a client: a pool's `connect`, or a function.
 function connectOf(pool) {
   if (typeof pool === "function") return pool;
   if (typeof pool?.connect !== "function") throw new BadInput("a SqlServer is over a pool of pg: write new SqlServer(new Server(..), new Pool(..)), or a function that gives a client");
   return () => pool.connect();
 }
 
-// Gives a client back, or ends it. What is committed stays so, whatever the way back says.
+// Gives a client back, or ends it. What is committed stays committed, even if this fails.
 async function givenBack(client, isSound) {
   try {
     if (typeof client.release === "function") client.release(!isSound);
@@ -97,11 +97,11 @@ export class SqlServer {
     this.origins = server.origins;
     this.topOrigins = server.topOrigins;
     this.webStore = new SqlWebStore(this, { looksUp: true });
-    // An idle connection that ends would end the process where nobody listens; the pool makes another in its place.
+    // If an idle connection ends and nobody listens, the process would end; the pool makes another in its place.
     if (typeof pool.listenerCount === "function" && pool.listenerCount("error") === 0) pool.on("error", () => {});
   }
 
-  // A transaction, which is made again where another one was in its way.
+  // Runs a transaction, and repeats it if another one was in its way.
   async #transaction(work) {
     for (let tried = 1; ; tried++) {
       try {
@@ -152,7 +152,7 @@ export class SqlServer {
     }
   }
 
-  // Calls a hook of the site's. Where it passed over an error of the database the transaction has failed, and its commit would be none.
+  // Calls one of the site's hooks. If it passed over an error of the database, the transaction has failed, and its commit would do nothing.
   async #tell(name, run, told) {
     if (this.#hooks[name] === null) return;
     await this.#hooks[name](queryOf(run), told);
@@ -193,26 +193,27 @@ export class SqlServer {
     return soundOf(rows, credentialOf, this.#logger);
   }
 
-  // The credentials of an account that sign in.
+  // The credentials of an account that may sign in.
   async #ofAccount(run, user) {
     const { rows } = await run(`select ${COLUMNS} from garvoeng_credential where user_handle = $1 and retired = 0 order by created_at, id`, checkUser(user));
     return this.#listed(rows);
   }
 
-  // Ends the open registrations of an account, or all that it has open. Sessions go before credentials, in the order in which a sign-in takes them.
+  // Ends the open registrations of an account, or all its sessions. Sessions go before credentials, in the order in which a sign-in locks
+  // them.
   async #endSessions(run, user, isOfAll = false) {
     const named = toText(user), forms = [`"user":"${named}"`, `"user": "${named}"`];
     await run("delete from garvoeng_session where (strpos(data, $1) > 0 or strpos(data, $2) > 0) and ($3 or strpos(data, '\"algorithms\":') > 0)", ...forms, isOfAll);
   }
 
-  // The account of a credential; null where there is none, or it is another's than is named.
+  // The account of a credential; null if there is none, or it is not the named account.
   async #accountOf(run, id, user) {
     const { rows: [row] } = await run("select user_handle from garvoeng_credential where id = $1 and ($2::bytea is null or user_handle = $2)", id, user);
     return row?.user_handle ?? null;
   }
 
-  // The open session of this id, whose row goes with the transaction's commit; null where there is none of this kind, or it is bound to
-  // another sign-in than this one, or that has ended.
+  // The open session with this id, whose row is deleted when the transaction commits; null if there is none of this kind, if it is bound to
+  // a sign-in other than this one, or if it has ended.
   async #taken(run, session, kind, member, signIn = null) {
     if (session === null) return null;
     const { rows } = await run("delete from garvoeng_session where id = $1 and expires_at > $2 returning data", session, now());
@@ -264,7 +265,7 @@ export class SqlServer {
     const id = numberOf(session);
     return this.#call(async (run) => {
       const begun = await this.#taken(run, id, SignInSession, "allow");
-      // Of two sign-ins of one credential the second is judged by what the first left.
+      // Of two sign-ins with one credential, the second is verified against what the first left.
       const find = async (asked) => {
         const { rows } = await run(`select ${COLUMNS} from garvoeng_credential where id = $1 for update`, asked);
         return rows.length === 0 ? null : credentialOf(rows[0]);
@@ -281,7 +282,7 @@ export class SqlServer {
     });
   }
 
-  // Makes a change to the credential of an id, and of an account if one is named; whether there was something to change.
+  // Changes the credential with an id, of a certain account if one is named. Returns whether there was something to change.
   async #changed(id, user, statement, more = async () => {}) {
     const asked = [checkId(id), user === null ? null : checkUser(user)];
     return this.#call(async (run) => {
@@ -301,7 +302,7 @@ export class SqlServer {
     return this.#changed(id, user, "delete from garvoeng_credential where id = $1 and user_handle = $2", (run, account) => forgetName(queryOf(run), account, id));
   }
 
-  // Makes a change to all credentials of an account: how many were changed.
+  // Changes all credentials of an account. Returns how many were changed.
   async #changedAll(user, isOfAll, statement) {
     const account = checkUser(user);
     return this.#call(async (run) => {

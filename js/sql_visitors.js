@@ -6,11 +6,11 @@ import { fromText, toText } from "./forms.js";
 import { isNumber, now } from "./keeping.js";
 import { SIGNED_IN_FOR, checkFlag, isBytes, optionsIn, ownOf } from "./limits.js";
 
-// Sessions that have ended go at a begin, so many at a time, and no begin waits for another's.
+// A begin deletes up to 100 sessions that have ended, and does not wait for another begin's.
 const EXPIRED = `delete from garvoeng_session where id in (
   select id from garvoeng_session where expires_at <= $1 limit 100 for update skip locked)`;
 const SECRET = "secret";
-// When those end that no visitor has a number for.
+// The end of rows for which no visitor has a number.
 const NEVER = 2 ** 53;
 
 /** The members of a session's row; empty if it is damaged. */
@@ -66,9 +66,9 @@ async function namesOf(query, user) {
   return new Map(Object.entries(Object(names)).filter(([, name]) => typeof name === "string"));
 }
 
-// Calls a passkey so. An empty name is none.
+// Names a passkey. An empty name removes the name.
 async function rename(query, user, credential, name) {
-  // One at a time, as Python's too.
+  // One at a time, as in Python.
   await query("select pg_advisory_xact_lock(hashtext($1))", [`garvoeng ${toText(user)}`]);
   const names = await namesOf(query, user);
   names.delete(toText(credential));

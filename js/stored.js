@@ -18,10 +18,10 @@ import { ProgramOfPrimary, serveWorkers } from "./workers.js";
 
 const LOGS = [false, true, "refusals", "all"];
 
-// The most credentials, and seconds of a session.
+// The most credentials, and the most seconds of a session.
 const MOST = 1_000_000;
 const OWN = ["maxCredentials", "existing", "atLeast", "wary", "log", "lifetime", "timeout", "logger"];
-// The flag BE: a sign-in whose flag is another than the row's is refused by W16.
+// The flag BE: a sign-in whose flag differs from the row's is refused with W16.
 const ELIGIBLE = 0x08;
 
 function textOf(value, what) {
@@ -45,7 +45,7 @@ function wordsOf(program, file, rpId, origins, how) {
   ];
 }
 
-// A worker of PM2's cluster mode asks PM2's own process, which answers nobody.
+// In PM2's cluster mode a worker asks PM2's own process, which does not answer.
 function checkPrimary() {
   if (process.env.pm_id !== undefined)
     throw new BadInput("a StoredServer does not run in PM2's cluster mode, whose primary process is PM2's own: run one instance in fork mode, or use a SqlServer");
@@ -60,13 +60,13 @@ function partsOf(row) {
   return { id, user, x, y, algorithm: row.algorithm, signCount: row.sign_count, eligible: row.eligible, retired: row.retired };
 }
 
-// A credential of the file, and what is known of it.
+// A credential in the file, and what is known of it.
 function keptOf(row) {
   return new KeptCredential({ ...partsOf(row), transports: row.transports, aaguid: row.aaguid === null ? null : fromText(row.aaguid, "aaguid"),
                               createdAt: row.created_at, usedAt: row.used_at });
 }
 
-// The credentials of a list, with the transports that the file has of those that have none.
+// The credentials of a list; those without transports get the ones in the file.
 function knownOf(listed, told) {
   return listed.map((one, at) => one.transports.length > 0 ? one : { ...one, transports: transportsIn(told[at]?.transports) });
 }
@@ -116,8 +116,8 @@ export class StoredServer {
     return this.#known;
   }
 
-  // What was accepted, and what was verified for it. The program tells the signature that is asked for; where it is valid it is handed
-  // back, and else the program gets false, so that its log has the refusal.
+  // What was accepted, and what was verified for it. The program gives the signature to verify. It gets the signature back if it is valid,
+  // and otherwise false, so that its log has the refusal.
   async #finish(act, session, response, more = {}) {
     const members = { session: sealed(session), response, ...more };
     let answer = await this.#ask(act, members), asked = null;
@@ -133,7 +133,7 @@ export class StoredServer {
     return { accepted: answer.accepted, asked };
   }
 
-  // The credentials of an account that sign in.
+  // The credentials of an account that may sign in.
   async #ofAccount(user) {
     return (await this.rows(user)).filter(({ retired }) => !retired);
   }
@@ -181,14 +181,14 @@ export class StoredServer {
     const text = checkSession(session);
     const { accepted, asked } = await this.#finish("finish_sign_in", text, handedOn(response, SIGN_IN_MEMBERS, ["userHandle"]));
     const [id, user] = bytesOf(accepted, "credential", "user"), [x, y] = bytesOf(asked, "x", "y"), told = toldOf(accepted);
-    // Where the credential was deleted meanwhile its transports are gone.
+    // If the credential was deleted meanwhile, its transports are gone.
     const row = (await this.rows(user)).find((one) => toText(one.id) === accepted.credential);
     const credential = new Credential({ id, user, algorithm: asked.algorithm, x, y, signCount: accepted.sign_count, eligible: (told.flags & ELIGIBLE) !== 0,
                                         transports: row?.transports ?? [] });
     return new SignedIn({ credential, before: null, ...told });
   }
 
-  // What an act on a credential answers. Where an account is named the credential has to be its own.
+  // The answer to an act on a credential. If an account is named, the credential has to be its own.
   async #changed(act, id, user) {
     const credential = toText(checkId(id));
     if (user !== null && !(await this.rows(user)).some((row) => toText(row.id) === credential)) return {};

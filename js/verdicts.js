@@ -12,7 +12,7 @@ export const ACCEPTED = 0;
 export const BAD_STATEMENT = 13;
 /** A sign-in's step. */
 export const BAD_SIGNATURE = 14;
-// Inputs out of their limits have the numbers from here on, up to that of out of memory; steps have those below.
+// Inputs out of their limits have the numbers from here on, up to the number of out of memory; steps have lower ones.
 const FIRST_LIMIT = 100;
 const NO_MEMORY = 127;
 const MOST_OF_A_TEXT = 128;
@@ -158,8 +158,8 @@ export function judgeAssertion(module, image) {
   return judge(module, "passkey_assertion", image, ASSERTION_OUT, flagsIn);
 }
 
-// The answer, and the signature that is to be verified; null where there is none. `fill` copies parts of a call that was judged, with
-// their pointers, into this one: what they point to lies there still. No part that is lent has more bytes than `size`.
+// The answer, and the signature to verify; null if there is none. `fill` copies parts of an earlier call, with their pointers, into this
+// one: the pointers still hold. No part that is lent has more bytes than `size`.
 function asked(module, size, fill) {
   const out = SIGNATURE_CALL.sizeOf, message = out + SIGNATURE_OUT.sizeOf, signature = message + size + 32;
   const at = module.take(signature + size), bytes = module.bytes();

@@ -13,7 +13,7 @@ function keyOf(algorithm, x, y) {
   return ["raw", algorithm === EDDSA ? x : new Uint8Array([4, ...x, ...y])];
 }
 
-// An INTEGER of DER at an offset, in 32 bytes, and where it ends; null where there is none in the one form that DER has.
+// A DER INTEGER at an offset, in 32 bytes, and where it ends; null if there is none in the only form that DER allows.
 function integerAt(value, at) {
   const size = value[at + 1], end = at + 2 + size;
   if (value[at] !== 2 || size < 1 || size > 33 || end > value.length) return null;
@@ -24,7 +24,7 @@ function integerAt(value, at) {
   return { made, end };
 }
 
-// The two numbers of ECDSA's signature, 64 bytes, of their SEQUENCE in DER (RFC 3279, section 2.2.3); null where it is none.
+// The two numbers of an ECDSA signature, 64 bytes, from their DER SEQUENCE (RFC 3279, section 2.2.3); null if it is not one.
 function numbersOf(value) {
   if (value[0] !== 0x30 || value[1] !== value.length - 2) return null;
   const r = integerAt(value, 2), s = r === null ? null : integerAt(value, r.end);

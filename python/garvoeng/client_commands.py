@@ -13,10 +13,10 @@ from .errors import BadInput
 from .forms import to_text
 from .hid import HidMissing, security_keys
 
-_STATUSES = """statuses: 0 done; 1 the key, the client or the user refuses; 2 the command line or the options are wrong; 3 there is no key,
-or several and none was named, or it was pulled out, or python-fido2 is missing; 4 the program passkey-client can't be run or failed;
-5 standard output can't be written; 130 Ctrl-C, after which the key has given up.
-Responses and what a key tells go to standard output as JSON, all that is for the user to standard error."""
+_STATUSES = """statuses: 0 done; 1 the key, the client or the user refused; 2 the command line or the options are wrong; 3 there is no key,
+or there are several and none was named, or it was pulled out, or python-fido2 is missing; 4 the program passkey-client can't be run or failed;
+5 standard output can't be written; 130 Ctrl-C, and the key has given up.
+Responses and a key's information go to standard output as JSON, messages for the user to standard error."""
 ALGORITHMS = (-7, -8, -257)
 
 
@@ -106,22 +106,22 @@ def _options(words: argparse.Namespace) -> Dict[str, Any]:
 def _words(words: Optional[Sequence[str]]) -> argparse.Namespace:
     reading = argparse.ArgumentParser(prog="python -m garvoeng.client", description=__doc__, epilog=_STATUSES,
                                       formatter_class=argparse.RawDescriptionHelpFormatter)
-    reading.add_argument("--key", metavar="PATH", help="the key, as `list` names it; where there is one alone it is that")
+    reading.add_argument("--key", metavar="PATH", help="the key, as `list` names it; not needed if there is only one")
     reading.add_argument("--program", metavar="PATH", default=os.environ.get("PASSKEY_CLIENT", "passkey-client"),
-                         help="the program passkey-client; else that of the environment's PASSKEY_CLIENT, or of PATH")
-    reading.add_argument("--no-built-in", action="store_true", help="ask for the PIN, not for a finger")
+                         help="the program passkey-client; by default PASSKEY_CLIENT in the environment, or the one in PATH")
+    reading.add_argument("--no-built-in", action="store_true", help="ask for the PIN, not for a fingerprint")
     reading.add_argument("--timeout", metavar="SECONDS", type=float, default=60.0, help="how long the key may take (60)")
     commands = reading.add_subparsers(dest="command", required=True, metavar="COMMAND")
-    commands.add_parser("list", help="the keys that are plugged in: path, numbers of USB, name")
-    commands.add_parser("information", help="what the key tells of itself")
-    commands.add_parser("set-pin", help="its first PIN")
-    commands.add_parser("change-pin", help="another PIN")
+    commands.add_parser("list", help="the connected keys: path, USB numbers, name")
+    commands.add_parser("information", help="what the key reports of itself")
+    commands.add_parser("set-pin", help="set the key's first PIN")
+    commands.add_parser("change-pin", help="change the key's PIN")
     for name, what in (("register", "a new credential: RegistrationResponseJSON"), ("sign-in", "AuthenticationResponseJSON")):
         one = commands.add_parser(name, help=what)
-        one.add_argument("--origin", required=True, help="as https://example.com")
-        one.add_argument("--options", metavar="FILE", help="the site's options as JSON, - for standard input; else some with a challenge of "
-                                                           "their own, of what follows")
-        one.add_argument("--rp-id", metavar="DOMAIN", help="the relying party; else the origin's host")
+        one.add_argument("--origin", required=True, help="such as https://example.com")
+        one.add_argument("--options", metavar="FILE", help="the site's options as JSON, - for standard input; by default made from the "
+                                                           "following, with a new challenge")
+        one.add_argument("--rp-id", metavar="DOMAIN", help="the relying party; by default the origin's host")
         one.add_argument("--verification", choices=("required", "preferred", "discouraged"), default="preferred")
         if name == "register":
             one.add_argument("--user", metavar="NAME", default="user")
