@@ -139,7 +139,7 @@ func (s *Server) registered(session *RegistrationSession, parts *registrationPar
 		return nil, err
 	}
 	if int(told.format) >= len(formats) {
-		return nil, badInput("the library told the format %d", told.format)
+		return nil, badInput("the library reported the format %d", told.format)
 	}
 	told.credential.Transports = transports
 	return &Registered{

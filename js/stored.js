@@ -129,7 +129,7 @@ export class StoredServer {
     if (answer.refused !== undefined) throw new Refused(act === "finish_registration", answer.refused.number, answer.refused.text);
     // A sign-in is accepted for a signature that was verified here, and for nothing else.
     if (typeof answer.accepted !== "object" || answer.accepted === null || (asked === null && act === "finish_sign_in"))
-      throw new StoreFailed("the program answered what is no verdict");
+      throw new StoreFailed("the program's answer is not a verdict");
     return { accepted: answer.accepted, asked };
   }
 
@@ -217,7 +217,7 @@ export class StoredServer {
 
   async rows(user = null) {
     const { rows } = await this.#ask("rows", user === null ? {} : { user: toText(checkUser(user)) });
-    if (!Array.isArray(rows)) throw new StoreFailed("the program answered what is no list of rows");
+    if (!Array.isArray(rows)) throw new StoreFailed("the program's answer is not a list of rows");
     return rows.map(keptOf);
   }
 

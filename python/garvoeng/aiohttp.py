@@ -43,7 +43,7 @@ class Passkeys:
         answer = await self.core.answer_async(self._asked(request, path))
         response = Response(body=answer.body, status=answer.status, headers=CIMultiDict(answer.lines()))
         if not request.content.at_eof():
-            # What was refused by its head is not read; the connection ends with it.
+            # If the head is refused, the body is not read, and the connection ends.
             response.force_close()
         return response
 

@@ -341,10 +341,10 @@ class Client:
 
     def _asked_pin(self, answer: Dict[str, Any]) -> str:
         if self._pin is None:
-            raise ClientRefused("pin_needed", "the key wants its PIN, and there is nobody to ask")
+            raise ClientRefused("pin_needed", "the key needs its PIN, and there is nobody to ask")
         pin = self._pin(answer.get("retries"), bool(answer.get("wrong")))
         if pin is None:
-            raise ClientRefused("cancelled", "the user told no PIN")
+            raise ClientRefused("cancelled", "the user gave no PIN")
         return _pin_of(pin)
 
     def _chosen(self, answer: Dict[str, Any]) -> int:

@@ -65,7 +65,7 @@ class Program:
         try:
             line = json.dumps({"id": number, "act": act, **members}, allow_nan=False).encode() + b"\n"
         except (TypeError, ValueError, RecursionError):
-            raise BadInput(f"{act} is not of values of JSON") from None
+            raise BadInput(f"{act} is not made of JSON values") from None
         if len(line) > MAX_LINE:
             raise BadInput(f"{act} has more than {MAX_LINE:,} bytes")
         if self.has_ended:

@@ -71,7 +71,7 @@ class SessionDamaged(Exception):
         self.session = session
         """The session's id."""
         self.text = text
-        # Who has the whole id has what the visitor has, so a log has its front.
+        # Whoever has the whole id could act as the visitor, so a log shows only its front.
         super().__init__(f"the row of the session {session[:8]} is damaged: {text}")
 
     def __reduce__(self) -> Tuple[Any, ...]:

@@ -19,7 +19,7 @@ _AT, _BY = "garvoeng_signed_in_at", "garvoeng_by_passkey"
 
 
 def _read(most: int) -> bytes:
-    # Of a body without a length no more is read than a request may have, unless the site has read it before.
+    # A body without a length is read only up to the limit, unless the site has read it before.
     return request.get_data() if request.content_length is not None else request.stream.read(most) or request.get_data()
 
 

@@ -66,7 +66,7 @@ def _read(response: Mapping[str, Any], names: Tuple[str, ...], required: int) ->
     """The bytes of these members."""
     try:
         try:
-            # What browsers send is seen at once, without the slower look at each member.
+            # The form that browsers send is recognized at once, without the slower check of each member.
             raw_id = response["rawId"]
             if (type(raw_id) is str and response["id"] == raw_id and response["type"] == "public-key" and
                     type(response["clientExtensionResults"]) is dict and response.get("authenticatorAttachment") is None):

@@ -61,7 +61,7 @@ def _kept(row: Sequence[Any]) -> KeptCredential:
     limits.check_credential(algorithm, count)
     known = tuple(transports.split(",")) if transports else ()
     if transports_in(list(known)) != known:
-        raise BadInput("transports are none")
+        raise BadInput("transports are not valid")
     return KeptCredential(limits.check_id(identity, "id"), limits.check_user(user), algorithm, x, y or b"", count,
                           None if eligible is None else bool(eligible), bool(retired), known, None if aaguid is None else limits.check_aaguid(aaguid),
                           None, created, used)
@@ -82,7 +82,7 @@ def rows_of(file: str, told: Callable[[str], None]) -> Iterator[KeptCredential]:
     """The credentials of a site's file, in order of registration, read from a copy. A row that is not a credential is reported by its
     position, and left out. Raises `BadInput` if the file is in use, has another version, or is damaged."""
     with tempfile.TemporaryDirectory() as folder:
-        # The log stands beside the file that a link leads to.
+        # The log is beside the file that a link leads to.
         copy = _copied(Path(file).resolve(), folder)
         with closing(sqlite3.connect(copy)) as site:
             _checked(site, Path(file))

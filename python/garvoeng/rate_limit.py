@@ -50,7 +50,7 @@ def _counted(address: Optional[str]) -> Optional[str]:
     try:
         one = ipaddress.ip_address((address or "").split("%")[0])
     except ValueError:
-        # A host's own word for a visitor counts as it is; a Unix socket has none.
+        # A host's own name for a visitor counts as it is; a Unix socket has none.
         return address or None
     if isinstance(one, ipaddress.IPv6Address):
         one = one.ipv4_mapped or one

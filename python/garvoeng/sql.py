@@ -95,7 +95,7 @@ class SqlServer:
         said = hook(rows, told)
         if inspect.isawaitable(said):
             refuse(name, said, "None: it is not awaited", awaited_in="")
-        # Where it passed over an error of the database the transaction has failed, and its commit would be none.
+        # If it passed over an error of the database, the transaction has failed, and its commit would do nothing.
         rows.run("select 1").fetchone()
 
     def prepare(self) -> None:

@@ -131,7 +131,7 @@ def is_sqlite(connection: Any) -> bool:
     cursor.execute("select '1' = 1 as is_postgres")
     said = plain(cursor.fetchone())
     connection.rollback()
-    # A factory of sqlite3 may have left nothing of the row.
+    # A row factory of sqlite3 may have left nothing of the row.
     return not said or not said[0]
 
 
@@ -153,7 +153,7 @@ def transaction(connection: Any, on_sqlite: bool, writes: bool) -> Iterator[Curs
             connection.isolation_level = None
             cursor.execute("begin immediate" if writes else "begin")
         else:
-            # What is locked is seen as it is then, and not as it was when the transaction began.
+            # Locked rows are read in their current state, not in that of the transaction's begin.
             cursor.execute("begin isolation level read committed" if by_itself else "set transaction isolation level read committed")
         yield cursor
         end("commit")

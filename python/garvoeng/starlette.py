@@ -53,7 +53,7 @@ class Passkeys:
         if scope["type"] != "http":
             raise RuntimeError(f"garvoeng.starlette answers http, and not {scope['type']}")
         path = scope["path"]
-        # Starlette cuts the front off from version 0.33 on by `root_path`.
+        # From version 0.33 on, Starlette cuts the front off by `root_path`.
         root = scope.get("root_path", "")
         path = path[len(root):] if root and path.startswith(root + "/") else path
         answer = await self.core.answer_async(self._asked(Request(scope, receive), scope["method"], path.lstrip("/")))

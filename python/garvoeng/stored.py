@@ -109,7 +109,7 @@ class _Process:
             _log.error("the program answered what is no answer")
         finally:
             self._kill()
-            # Of a connection too, whose notes end by this.
+            # This also holds for a connection: it ends the notes.
             self.process.stdout.close()
             self.hearing.join(_ENDING)
             with self.changed:
@@ -177,7 +177,7 @@ class _Process:
         self.process.returncode = 0
         for pipe in (self.process.stdin, self.process.stdout, self.process.stderr):
             assert pipe is not None
-            # The buffer may be locked by a thread that the child does not have.
+            # A thread that the child does not have may hold the buffer's lock.
             getattr(pipe, "raw").close()
 
     def end(self, timeout: float) -> int:
@@ -342,7 +342,7 @@ class StoredServer:
             raise Refused(act == "finish_registration", answer["refused"]["number"], answer["refused"]["text"])
         # A sign-in is accepted for a signature that was verified here, and for nothing else.
         if "accepted" not in answer or not (asked or act == "finish_registration"):
-            raise StoreFailed("the program answered what is no verdict")
+            raise StoreFailed("the program's answer is not a verdict")
         return answer["accepted"], asked
 
     # ---- registration
@@ -422,7 +422,7 @@ class StoredServer:
         who, asked = self._finish("finish_sign_in", text, _handed_on(
             raw_id, userHandle=user, authenticatorData=data, signature=signature, clientDataJSON=client_data))
         identity, handle = forms.from_text(who["credential"], "credential"), forms.from_text(who["user"], "user")
-        # Where the credential was deleted meanwhile its transports are gone.
+        # If the credential was deleted meanwhile, its transports are gone.
         told = [row.transports for row in self.rows(handle) if row.id == identity] or [()]
         credential = Credential(identity, handle, asked["algorithm"], forms.from_text(asked["x"], "x"), forms.from_text(asked["y"], "y"),
                                 who["sign_count"], bool(who["flags"] & _ELIGIBLE), False, told[0])

@@ -1,1 +1,1 @@
-"""Other libraries' calls over the proved steps: a site of theirs moves by changing its imports. docs/COMING.md has what differs."""
+"""The calls of other libraries over the proved steps: a site moves over by changing its imports. docs/COMING.md has the differences."""

@@ -1,7 +1,9 @@
-"""python-fido2's server (0.9) over the proved steps: `from garvoeng.compat.fido2 import Fido2Server` in place of `from fido2.server import Fido2Server`.
+"""python-fido2's server (0.9) over the proved steps: `from garvoeng.compat.fido2 import Fido2Server` in place of `from fido2.server import
+Fido2Server`.
 
-Begins and values are python-fido2's own, and so are attestation statements (`verify_attestation`). A response is judged by section 7.1 or 7.2 of
-WebAuthn: where a step does not pass, ValueError says which. Keys of ES256, EdDSA and RS256 are offered, and challenges have 32 bytes."""
+Begins and values are python-fido2's own, and so are attestation statements (`verify_attestation`). A response is verified by section 7.1 or
+7.2 of WebAuthn: if it does not pass a step, ValueError says which. Keys of ES256, EdDSA and RS256 are offered, and challenges have 32
+bytes."""
 from __future__ import annotations
 
 from importlib import import_module
@@ -14,11 +16,11 @@ _Fido2Server: Any = import_module("fido2.server").Fido2Server
 _encode = import_module("fido2.cbor").encode
 _ALGORITHMS = (ES256, EDDSA, RS256)
 _ANYBODY = b"\0"
-"""A user handle: python-fido2's calls have none, so it is not compared."""
+"""A user handle. It is not compared, because python-fido2's calls have none."""
 
 
 class _Judged:
-    """Raises ValueError in place of a refusal, as python-fido2 does."""
+    """Raises ValueError in place of a refusal, like python-fido2."""
 
     def __enter__(self) -> None:
         pass
@@ -29,7 +31,7 @@ class _Judged:
 
 
 class Fido2Server(_Fido2Server):  # type: ignore[misc]
-    """A relying party. The parameters are those of python-fido2's `Fido2Server`; `verify_origin` answers True or False."""
+    """A relying party. The parameters are those of python-fido2's `Fido2Server`; `verify_origin` returns True or False."""
 
     def __init__(self, rp: Any, attestation: Any = None, verify_origin: Any = None, verify_attestation: Any = None) -> None:
         super().__init__(rp, attestation, verify_origin, verify_attestation)
@@ -37,7 +39,7 @@ class Fido2Server(_Fido2Server):  # type: ignore[misc]
         self.allowed_algorithms: Any = [one for one in listed if one.alg in _ALGORITHMS]
 
     def _judge(self, client_data: Any) -> Server:
-        """The steps for the page that the client data name, if its origin is one of the site's."""
+        """Runs the steps for the page that the client data name, if its origin is one of the site's."""
         origin = client_data.get("origin")
         if not isinstance(origin, str) or not answers.is_true("verify_origin", self._verify(origin)):
             raise ValueError("Invalid origin in ClientData.")
@@ -50,8 +52,8 @@ class Fido2Server(_Fido2Server):  # type: ignore[misc]
         return challenge, required
 
     def register_complete(self, state: Any, client_data: Any, attestation_object: Any) -> Any:
-        """The authenticator data of a registration. Raises ValueError with the first step of section 7.1 that does not pass. Whether its id is
-        registered already is the site's to look up."""
+        """Returns the authenticator data of a registration. Raises ValueError with the first step of section 7.1 that does not pass. The
+        site itself checks whether the id is registered already."""
         challenge, required = self._session(state)
         offered = tuple(one.alg for one in self.allowed_algorithms)
         session = RegistrationSession(challenge, _ANYBODY, required, offered, False, False)
@@ -64,8 +66,8 @@ class Fido2Server(_Fido2Server):  # type: ignore[misc]
         return attestation_object.auth_data
 
     def authenticate_complete(self, state: Any, credentials: Sequence[Any], credential_id: bytes, client_data: Any, auth_data: Any, signature: bytes) -> Any:
-        """The credential that signed in. Raises ValueError with the first step of section 7.2 that does not pass. Counters are the site's to
-        compare, since python-fido2's credentials have none."""
+        """Returns the credential that signed in. Raises ValueError with the first step of section 7.2 that does not pass. The site itself
+        compares counters, because python-fido2's credentials have none."""
         challenge, required = self._session(state)
         session = SignInSession(challenge, _ANYBODY, (), required)
         found = next((one for one in credentials if one.credential_id == credential_id), None)

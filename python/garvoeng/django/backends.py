@@ -24,6 +24,6 @@ class PasskeyBackend(ModelBackend):
         if account is None or not self.user_can_authenticate(account.user):
             return None
         if passkey_accepted is None:
-            # By it `login` knows with which passkey the sign-in ends; the acts keep that by themselves.
+            # `login` uses it to know with which passkey the sign-in ends; the acts keep that themselves.
             account.user.garvoeng_credential = credential.id
         return account.user

@@ -38,7 +38,7 @@ def database() -> str:
 
 
 class DjangoServer(SqlServer):
-    # A call is a part of the view's transaction, which is the one that would have to be made again.
+    # A call is part of the view's transaction, and only that whole transaction could be repeated.
     tries = 1
 
     def __init__(self, server: Server, lifetime: int) -> None:
@@ -50,7 +50,7 @@ class DjangoServer(SqlServer):
         with transaction.atomic(using=alias):
             rows = rows_of(connections[alias])
             if rows.is_sqlite and writes:
-                # The lock of SQLite is taken before anything is read, so that nobody writes between.
+                # SQLite's lock is taken before anything is read, so that nobody writes in between.
                 rows.run("update garvoeng_version set version = version")
             yield rows
 
@@ -74,7 +74,7 @@ def core() -> Passkeys:
     """The acts for the setting `GARVOENG`."""
     said = settings.GARVOENG
     accounts = import_string(said.get("accounts", "garvoeng.django.accounts.DjangoAccounts"))()
-    # Before Django 4 these are hosts, of which no scheme is known; one may stand for many.
+    # Before Django 4 these are hosts without a scheme; one may stand for many.
     trusted = [origin for origin in settings.CSRF_TRUSTED_ORIGINS if is_origin(origin)]
     return Passkeys(server(), accounts, secret=sha256(b"garvoeng.django " + str(settings.SECRET_KEY).encode()).digest(), fresh=said.get("fresh", FRESH),
                     signed_in_for=settings.SESSION_COOKIE_AGE, rate_limit=lambda address: rate_limit()(address), trusted_origins=trusted,

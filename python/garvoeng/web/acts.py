@@ -125,7 +125,7 @@ class Visit:
     async def _refused(self, kind: str, session: Optional[str], error: Exception) -> None:
         """Logs a refusal (docs/OPERATING.md), and calls the site's function."""
         said = f"{error.name} {error.step}" if isinstance(error, Refused) else "by the site"
-        # Who has the whole session has what the visitor has, so a log has its front.
+        # Whoever has the whole session could act as the visitor, so a log shows only its front.
         _log.warning("%s refused %s session %s credential %s address %s: %s", kind, said, _logged((session or "")[:8]),
                      _logged(self.said.get("id")), _logged(self.request.address), getattr(error, "text", error))
         try:
@@ -162,7 +162,7 @@ class Visit:
         visitor = Visitor(bytes(told.user), told.name, told.at)
         if kept is None or kept.user != visitor.user:
             return visitor
-        # One that no passkey began is as old as the site says.
+        # A sign-in that no passkey began is as old as the site says.
         times = [at for at in (visitor.at, None if kept.credential is None else kept.at) if at is not None]
         return replace(visitor, at=max(times, default=None), credential=kept.credential, number=kept.number)
 

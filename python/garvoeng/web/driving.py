@@ -52,4 +52,4 @@ def at_once(act: Coroutine[Any, Any, Answered]) -> Answered:
         return value
     finally:
         act.close()
-    raise RuntimeError("an act waited whose calls are made at once")
+    raise RuntimeError("an act waited, although its calls are made at once")
