@@ -20,7 +20,7 @@ import (
 //go:embed page.html
 var page []byte
 
-// A visitor's own: what has begun, and who is signed in. Each session answers one response.
+// A visitor's state: the open ceremonies, and the user who is signed in. Each session accepts one response.
 type visit struct {
 	registration *garvoeng.RegistrationSession
 	signIn       *garvoeng.SignInSession
@@ -42,7 +42,7 @@ func token() string {
 	return hex.EncodeToString(words)
 }
 
-// The visit of a cookie; a new one, where there is none.
+// The visit for a cookie; a new one if there is none.
 func (s *site) visitOf(w http.ResponseWriter, r *http.Request) *visit {
 	if cookie, err := r.Cookie("visit"); err == nil && s.visits[cookie.Value] != nil {
 		return s.visits[cookie.Value]

@@ -1,4 +1,4 @@
-// The page of passkeys.html, whose elements have its words.
+// The script of passkeys.html; that page's elements have its texts.
 const element = (id) => document.getElementById(id);
 const words = element("passkeys").dataset;
 
@@ -9,7 +9,7 @@ function button(text, act) {
   return made;
 }
 
-// A passkey's line: what it is called, by its account or by its maker, and when it was made and used.
+// A passkey's line: its name, from its account or its maker, and when it was made and used.
 function lineOf({ id, name, model, created, used, retired }) {
   const line = document.createElement("li"), when = [created, used].filter((time) => time).map((time) => new Date(time * 1000).toLocaleString());
   line.textContent = `${[name ?? model ?? `${id.slice(0, 12)}…`, ...when].join(", ")} ${retired ? words.retired : ""} `;

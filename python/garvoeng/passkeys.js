@@ -1,6 +1,6 @@
 // The browser's side of `garvoeng.web`: passkeys.register(name), passkeys.signIn(), passkeys.list(), passkeys.rename(id, name),
-// passkeys.retire(id) and passkeys.signOut(). Each gives what the site answered, and throws an Error with its text. Who is signed in does so
-// afresh by signIn({ again: true }); register(name, { fields }) hands on what a new user of Django has to have.
+// passkeys.retire(id) and passkeys.signOut(). Each returns the site's answer, or throws an Error with its text. To sign in afresh, a visitor
+// who is signed in calls signIn({ again: true }); register(name, { fields }) passes the fields that a new user of Django needs.
 const passkeys = (() => {
   const base = new URL(".", document.currentScript.src);
   let hasToken = true;
@@ -11,7 +11,7 @@ const passkeys = (() => {
     return value;
   }
 
-  // What the site's framework asks of each post; a sign-in changes it.
+  // The token that the site's framework requires of each post; a sign-in changes it.
   async function token() {
     if (!hasToken) return {};
     const { header, token } = await fetch(new URL("token", base)).then((answer) => (answer.ok ? answer.json() : {}));

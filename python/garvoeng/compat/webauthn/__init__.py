@@ -1,5 +1,5 @@
-"""py_webauthn's calls (2) over the proved steps: `from garvoeng.compat.webauthn import ..` in place of `from webauthn import ..`, and so of
-`helpers`, `helpers.structs`, `helpers.cose` and `helpers.exceptions`."""
+"""The calls of py_webauthn (2) over the proved steps: `from garvoeng.compat.webauthn import ..` in place of `from webauthn import ..`, and
+the same for `helpers`, `helpers.structs`, `helpers.cose` and `helpers.exceptions`."""
 from __future__ import annotations
 
 import os
@@ -22,9 +22,9 @@ __all__ = ["base64url_to_bytes", "generate_authentication_options", "generate_re
 
 _ALL = tuple(COSEAlgorithmIdentifier)
 _ANYBODY = b"\0"
-"""A user handle: py_webauthn's calls have none, so it is not compared."""
+"""A user handle. It is not compared, because py_webauthn's calls have none."""
 _OTHER_RP_ID = ("G8", "W11")
-"""The steps at which another rp id of a list may still be the response's."""
+"""The steps at which another rp id of a list may still match the response."""
 Judged = TypeVar("Judged")
 
 
@@ -42,7 +42,7 @@ def generate_registration_options(*, rp_id: str, rp_name: str, user_name: str, u
                                   exclude_credentials: Optional[Sequence[PublicKeyCredentialDescriptor]] = None,
                                   supported_pub_key_algs: Optional[Sequence[COSEAlgorithmIdentifier]] = None,
                                   hints: Optional[Sequence[PublicKeyCredentialHint]] = None) -> PublicKeyCredentialCreationOptions:
-    """Options for the page, by `options_to_json`. Without `user_id` its 64 bytes are random."""
+    """Returns the options for the page, for `options_to_json`. Without `user_id` its 64 bytes are random."""
     if not rp_id or not rp_name or not user_name:
         raise ValueError("rp_id, rp_name and user_name cannot be an empty string")
     algorithms = _algorithms(supported_pub_key_algs)
@@ -59,7 +59,7 @@ def generate_registration_options(*, rp_id: str, rp_name: str, user_name: str, u
 def generate_authentication_options(*, rp_id: str, challenge: Optional[bytes] = None, timeout: int = 60_000,
                                     allow_credentials: Optional[Sequence[PublicKeyCredentialDescriptor]] = None,
                                     user_verification: UserVerificationRequirement = UserVerificationRequirement.PREFERRED) -> PublicKeyCredentialRequestOptions:
-    """Options for the page, by `options_to_json`."""
+    """Returns the options for the page, for `options_to_json`."""
     if not rp_id:
         raise ValueError("rp_id cannot be an empty string")
     return PublicKeyCredentialRequestOptions(challenge=_challenge(challenge), timeout=timeout, rp_id=rp_id, allow_credentials=list(allow_credentials or ()),
@@ -67,7 +67,7 @@ def generate_authentication_options(*, rp_id: str, challenge: Optional[bytes] = 
 
 
 def _algorithms(listed: Optional[Sequence[int]]) -> List[COSEAlgorithmIdentifier]:
-    """Those of the list that the steps know, in its order."""
+    """The items of the list that the steps know, in its order."""
     known = [COSEAlgorithmIdentifier(one) for one in (_ALL if listed is None else listed) if one in _ALL]
     if not known:
         raise BadInput("supported_pub_key_algs has none of ES256 (-7), EdDSA (-8) and RS256 (-257)")
@@ -75,7 +75,7 @@ def _algorithms(listed: Optional[Sequence[int]]) -> List[COSEAlgorithmIdentifier
 
 
 def _judged(rp_id: Union[str, Sequence[str]], origins: Union[str, Sequence[str]], judge: Callable[[Server], Judged], error: Callable[[str], WebAuthnException]) -> Judged:
-    """What `judge` answers for the first rp id that is the response's."""
+    """The result of `judge` for the first rp id that is the response's."""
     ids = [rp_id] if isinstance(rp_id, str) else list(rp_id)
     listed = [origins] if isinstance(origins, str) else list(origins)
     if not ids:
@@ -96,11 +96,11 @@ def verify_registration_response(*, credential: Union[str, Mapping[str, Any], Re
                                  require_user_verification: bool = False, supported_pub_key_algs: Optional[Sequence[COSEAlgorithmIdentifier]] = None,
                                  attestation: AttestationConveyancePreference = AttestationConveyancePreference.NONE,
                                  pem_root_certs_bytes_by_fmt: Optional[Mapping[Any, Any]] = None) -> VerifiedRegistration:
-    """Judges a registration by section 7.1. Raises `InvalidRegistrationResponse` with the first step that does not pass, and
-    `InvalidJSONStructure` if the response is not WebAuthn's JSON. Whether its id is registered already is the site's to look up.
+    """Verifies a registration by section 7.1. Raises `InvalidRegistrationResponse` with the first step that does not pass, and
+    `InvalidJSONStructure` if the response is not WebAuthn's JSON. The site itself checks whether the id is registered already.
 
-    The attestation statement is verified if `attestation`, which py_webauthn's call does not have, says that the options asked for one: then
-    `none` and packed self attestation are taken. `pem_root_certs_bytes_by_fmt` has to be empty."""
+    The attestation statement is verified if `attestation`, which py_webauthn's call does not have, says that the options asked for one:
+    then `none` and packed self attestation are accepted. `pem_root_certs_bytes_by_fmt` has to be empty."""
     if pem_root_certs_bytes_by_fmt:
         raise BadInput("pem_root_certs_bytes_by_fmt: attestation by certificates is not verified")
     made = parse_registration_credential_json(credential)
@@ -118,11 +118,11 @@ def verify_authentication_response(*, credential: Union[str, Mapping[str, Any], 
                                    expected_rp_id: Union[str, Sequence[str]], expected_origin: Union[str, Sequence[str]], credential_public_key: bytes,
                                    credential_current_sign_count: int, require_user_verification: bool = False,
                                    credential_id: Optional[bytes] = None, user_id: Optional[bytes] = None) -> VerifiedAuthentication:
-    """Judges a sign-in by section 7.2. Raises `InvalidAuthenticationResponse` with the first step that does not pass, and
+    """Verifies a sign-in by section 7.2. Raises `InvalidAuthenticationResponse` with the first step that does not pass, and
     `InvalidJSONStructure` if the response is not WebAuthn's JSON. Store `new_sign_count`.
 
-    py_webauthn's call has no id and no user handle of the stored credential: with `credential_id` the response has to name it, and with
-    `user_id` its user handle has to be that."""
+    py_webauthn's call takes neither the id nor the user handle of the stored credential: with `credential_id` the response has to name it,
+    and with `user_id` the response must have this user handle."""
     made = parse_authentication_credential_json(credential)
     handle = made.response.user_handle
     user = user_id if user_id is not None else handle if handle is not None else _ANYBODY

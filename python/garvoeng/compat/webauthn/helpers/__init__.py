@@ -29,7 +29,7 @@ def _descriptor(one: PublicKeyCredentialDescriptor) -> Dict[str, Any]:
 
 
 def options_to_json_dict(options: Union[PublicKeyCredentialCreationOptions, PublicKeyCredentialRequestOptions]) -> Dict[str, Any]:
-    """Options as values of JSON, as `parseCreationOptionsFromJSON` and `parseRequestOptionsFromJSON` take them."""
+    """Options as JSON values, in the form of `parseCreationOptionsFromJSON` and `parseRequestOptionsFromJSON`."""
     made: Dict[str, Any] = {"challenge": forms.to_text(options.challenge)}
     if options.timeout is not None:
         made["timeout"] = options.timeout
@@ -58,7 +58,7 @@ def options_to_json(options: Union[PublicKeyCredentialCreationOptions, PublicKey
 
 
 def _parts(said: Any, read: Callable[[Mapping[str, Any]], Parts]) -> Parts:
-    """The parts of a response in JSON, or of its text."""
+    """The parts of a response, from JSON values or their text."""
     try:
         made = json.loads(said) if isinstance(said, (str, bytes)) else said
     except (ValueError, RecursionError) as error:
@@ -72,7 +72,7 @@ def _parts(said: Any, read: Callable[[Mapping[str, Any]], Parts]) -> Parts:
 
 
 def parse_registration_credential_json(json_val: Union[str, Mapping[str, Any], RegistrationCredential]) -> RegistrationCredential:
-    """A registration's response of the page's JSON, or of its text. Raises `InvalidJSONStructure`."""
+    """A registration's response from the page's JSON, or from its text. Raises `InvalidJSONStructure`."""
     if isinstance(json_val, RegistrationCredential):
         return json_val
     transports: Optional[Any] = None
@@ -88,7 +88,7 @@ def parse_registration_credential_json(json_val: Union[str, Mapping[str, Any], R
 
 
 def parse_authentication_credential_json(json_val: Union[str, Mapping[str, Any], AuthenticationCredential]) -> AuthenticationCredential:
-    """A sign-in's response of the page's JSON, or of its text. Raises `InvalidJSONStructure`."""
+    """A sign-in's response from the page's JSON, or from its text. Raises `InvalidJSONStructure`."""
     if isinstance(json_val, AuthenticationCredential):
         return json_val
     raw_id, client_data, auth_data, signature, user = _parts(json_val, forms.sign_in_parts)

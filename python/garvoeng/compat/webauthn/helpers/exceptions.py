@@ -1,8 +1,8 @@
-"""What py_webauthn raises."""
+"""The exceptions of py_webauthn."""
 
 
 class WebAuthnException(Exception):
-    """What the others are."""
+    """The base of the others."""
 
 
 class InvalidRegistrationResponse(WebAuthnException):

@@ -9,7 +9,7 @@ from .cose import COSEAlgorithmIdentifier
 
 
 class _Text(str, Enum):
-    """A text of the standard's."""
+    """A text from the standard."""
 
     def __str__(self) -> str:
         return str(self.value)
