@@ -89,9 +89,9 @@ class Client:
     credential to use; each has `id`, `user_id`, `user_name` and `display_name`. Without it several credentials are refused as
     `choice_needed`. If a callback returns None, the call is refused as `cancelled`. All three are called in the caller's thread.
 
-    If `built_in` is false, the key's own verification, such as a fingerprint reader, is not used; if it fails, the client asks for the PIN.
-    A call waits for the key for `timeout` seconds in all, and no longer than the options' `timeout`, which is in milliseconds; then the key
-    has to give up, and the call is refused as `timeout`. The time that the user takes for a PIN or a choice does not count.
+    If `built_in` is false, the key's own verification, such as a fingerprint reader, is not used; otherwise, if it fails, the client asks
+    for the PIN. A call waits for the key for `timeout` seconds in all, and no longer than the options' `timeout`, which is in milliseconds;
+    then the key has to give up, and the call is refused as `timeout`. The time that the user takes for a PIN or a choice does not count.
 
     Calls from several threads run one after another. The key is lent: the client does not close it. PINs are sent to the program and kept
     nowhere; no exception has one in its text.

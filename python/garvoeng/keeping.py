@@ -136,7 +136,7 @@ class Store(Protocol):
         `retire`."""
 
     def erase(self, user: bytes) -> int:
-        """Deletes all rows and all sessions of a user. Returns how many rows there were."""
+        """Deletes a user's rows and sessions, all of them. Returns how many rows."""
 
 
 def _check(row: KeptCredential) -> None:

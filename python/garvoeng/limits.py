@@ -130,7 +130,7 @@ def check_user(user: bytes) -> bytes:
 
 
 def check_id(value: bytes, what: str) -> bytes:
-    """Checks a credential id."""
+    """A credential's id."""
     credential_id = check_bytes(value, what, ", a credential id")
     if not 1 <= len(credential_id) <= MAX_ID:
         raise BadInput(f"{what}, a credential id, has 1 to {MAX_ID} bytes, and not {len(credential_id)}")

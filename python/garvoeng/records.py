@@ -253,7 +253,7 @@ class Registered:
     """An accepted registration."""
 
     credential: Credential
-    """The credential to store."""
+    """What to store."""
     aaguid: bytes
     """The model of the authenticator, as it reports it: 16 bytes. Many keys send zeros."""
     format: str

@@ -243,6 +243,6 @@ class SqlServer:
         return self.within(erase)
 
     def abandon(self, session: Optional[str]) -> bool:
-        """Ends a session, or a sign-in that `keep_sign_in` stored. Returns whether it was there."""
+        """Ends a session, or a sign-in of `keep_sign_in`. Returns whether it was there."""
         number = limits.check_session(session)
         return self.within(lambda rows: rows.end(number))

@@ -18,7 +18,7 @@ from . import web
 from .errors import BadInput
 
 _SECONDS = 30
-"""How many seconds a body may take."""
+"""Seconds that a body may take."""
 
 
 async def _body(request: Request, most: int) -> bytes:

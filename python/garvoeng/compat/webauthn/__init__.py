@@ -59,7 +59,7 @@ def generate_registration_options(*, rp_id: str, rp_name: str, user_name: str, u
 def generate_authentication_options(*, rp_id: str, challenge: Optional[bytes] = None, timeout: int = 60_000,
                                     allow_credentials: Optional[Sequence[PublicKeyCredentialDescriptor]] = None,
                                     user_verification: UserVerificationRequirement = UserVerificationRequirement.PREFERRED) -> PublicKeyCredentialRequestOptions:
-    """Returns the options for the page, for `options_to_json`."""
+    """The options for the page, for `options_to_json`."""
     if not rp_id:
         raise ValueError("rp_id cannot be an empty string")
     return PublicKeyCredentialRequestOptions(challenge=_challenge(challenge), timeout=timeout, rp_id=rp_id, allow_credentials=list(allow_credentials or ()),
