@@ -410,8 +410,8 @@ export interface Store {
   row(id: Uint8Array): Awaitable<KeptMembers | null | undefined>;
   /** The rows of a user, or all, in order of registration. */
   rows(user: Uint8Array | null): Awaitable<readonly KeptMembers[]>;
-  /** Sets `retired` of a row to true, and deletes the sessions of its user whose kind is `registration`. Returns whether the row was not
-   *  retired before. With `user`, the row of another user is left as it is. */
+  /** Sets `retired` of a row to true, if it is not, and deletes the sessions of its user whose kind is `registration`. Returns whether it
+   *  did. With `user`, the row of another user is left as it is. */
   retire(id: Uint8Array, user: Uint8Array | null): Awaitable<boolean>;
   /** The same for all rows of a user. Returns how many were not retired. */
   retireAll(user: Uint8Array): Awaitable<number>;

@@ -125,8 +125,8 @@ class Store(Protocol):
         """The rows of a user, or all, in order of registration."""
 
     def retire(self, credential: bytes, user: Optional[bytes]) -> bool:
-        """Sets `retired` of a row to true, and deletes the sessions of its user whose kind is `registration`. Returns whether the row was
-        not retired before. With `user`, the row of another user is left as it is."""
+        """Sets `retired` of a row to true, if it is not, and deletes the sessions of its user whose kind is `registration`. Returns whether
+        it did. With `user`, the row of another user is left as it is."""
 
     def retire_all(self, user: bytes) -> int:
         """Does the same for all rows of a user. Returns how many were not retired."""

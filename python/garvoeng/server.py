@@ -126,8 +126,9 @@ class Server:
         `user_verification` is true (`required`), false (`preferred`) or `discouraged`; `resident_key` is true (`required`), false
         (`discouraged`) or `preferred`. `authenticator_attachment` is `platform` or `cross-platform`; `attestation` is `none`, `indirect`,
         `direct` or `enterprise`; `conditional` is for a page that lets the browser make a passkey by itself after another sign-in (Level 3,
-        section 5.1.3, `mediation`): then nobody need be present. The profile `level3` looks at both. `timeout` is in milliseconds; `hints`
-        is a list of `security-key`, `client-device` and `hybrid`; `extensions` go to the page unchanged. Raises `BadInput`.
+        section 5.1.3, `mediation`): then nobody need be present. The profile `level3` looks at `attestation` and `conditional`. `timeout`
+        is in milliseconds; `hints` is a list of `security-key`, `client-device` and `hybrid`; `extensions` go to the page unchanged. Raises
+        `BadInput`.
         """
         listed = limits.check_list(exclude, "exclude", "credentials or their ids")
         verification = options.user_verification_of(user_verification)
