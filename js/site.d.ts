@@ -145,8 +145,8 @@ export interface Passkeys extends Calls<Request> {
  *  damaged row, and for a body that was read before and not passed on, 503 if the storage did not answer.
  *
  *  A sign-in ends after `lifetime`, by `sign-out`, and when its passkey is retired or deleted. A passkey can be added shortly after a
- *  sign-in, and only in the sign-in that began it. Cookies are HttpOnly and SameSite=Lax, and if an origin of the server is https also
- *  Secure, with `__Host-` before the name. Throws `TypeError` and `BadInput` for values that are out of their limits. */
+ *  sign-in, and only by the sign-in that began its registration. Cookies are HttpOnly and SameSite=Lax, and if an origin of the server is
+ *  https also Secure, with `__Host-` before the name. Throws `TypeError` and `BadInput` for values that are out of their limits. */
 export function passkeys(server: PasskeyServer, options?: PasskeysOptions): Passkeys;
 
 /** The names that a list shows, by the aaguid as text: the authenticator's own claim. */

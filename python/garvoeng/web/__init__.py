@@ -87,9 +87,9 @@ class Passkeys:
     or more, signs the cookie of an open registration; by default it is the store's.
 
     A sign-in ends after `signed_in_for` seconds, by `sign-out`, and when its passkey is retired or deleted. A passkey can be added for
-    `fresh` seconds after a sign-in, and only in the sign-in that began it. Cookies are HttpOnly and SameSite=Lax, and if an origin of the
-    server is https also Secure, with `__Host-` before the name. A request that changes something has to be JSON, and come from a page at an
-    origin of the server or of `trusted_origins`. `rate_limit` is a `RateLimit()` by default, and False for none.
+    `fresh` seconds after a sign-in, and only by the sign-in that began its registration. Cookies are HttpOnly and SameSite=Lax, and if an
+    origin of the server is https also Secure, with `__Host-` before the name. A request that changes something has to be JSON, and come
+    from a page at an origin of the server or of `trusted_origins`. `rate_limit` is a `RateLimit()` by default, and False for none.
 
     `registration` and `sign_in` are parameters for `register_begin` and `authenticate_begin`, such as `{"user_verification": True}`.
     `models` has the names of authenticators by their aaguid, and `translate(text)` returns the text of an error in the visitor's language.
