@@ -23,7 +23,7 @@ from cryptography.hazmat.primitives.serialization import Encoding, PublicFormat,
 
 from .compared import Asked, Facts, compared_at
 from .decoded import attestation_of, authenticator_data_of, client_data_of, shallow
-from .errors import BadInput, Refused
+from .errors import BadInput, Refused, RowDamaged
 from .forms import from_text, to_text
 from .library import EDDSA, ES256, RS256, is_canonical
 from .records import Credential, RegistrationSession, SignInSession
@@ -186,7 +186,7 @@ def explain(case: Any) -> Dict[str, Any]:
         stored = _judged(given, kind, session, row, asked)
     except Refused as error:
         refused = error
-    except (BadInput, TypeError, MemoryError) as error:
+    except (BadInput, RowDamaged, TypeError, MemoryError) as error:
         fault = str(error)
     verdict = "accepted" if stored is not None else "refused" if refused is not None else "not judged"
     numbers = [step["number"] for step in steps()[kind]]
