@@ -2,6 +2,7 @@
 line has the relying party, its sessions and the credential, each further one a call, a response, and the answer: null where it is
 accepted, else the refusal's name, or the text of `BadInput`. A number that JSON does not have is written as 1e999."""
 import json
+import re
 
 from device import Device
 from hostile import changes, passed_over
@@ -9,12 +10,14 @@ from hostile import changes, passed_over
 from garvoeng import BadInput, Refused, Server
 from garvoeng.forms import to_text
 
+# A text in base64url may have the same letters.
+NO_NUMBER = re.compile(r"(?<=[\s\[:,])(-?)(?:NaN|Infinity)(?=[\s,\]}])")
 RP_ID, ORIGIN, USER = "example.com", "https://example.com", b"account 7"
 
 
 def line(**members):
     text = json.dumps(members)
-    print(text if no_nan(members) else text.replace("NaN", "1e999").replace("Infinity", "1e999"))
+    print(text if no_nan(members) else NO_NUMBER.sub(r"\g<1>1e999", text))
 
 
 def no_nan(value):

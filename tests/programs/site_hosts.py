@@ -477,7 +477,7 @@ def failing_disk(tests):
 def wrong_files(tests):
     """What a person does wrong, told by name."""
     for words in ("--new", "--existing"):
-        for bound, wanted, why in ((1_000_001, 2, "no number from 1 to 1000000"), (1_000_000, 0, "")):
+        for bound, wanted, why in ((1_000_001, 2, "takes a number from 1 to 1000000"), (1_000_000, 0, "")):
             tests.ends(f"{bound} credentials, {words}", tests.file("most.db"), wanted, why, ["--max-credentials", str(bound), words])
     with tests.server("used.db") as server:
         server.rows()

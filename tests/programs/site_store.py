@@ -58,12 +58,12 @@ def ages(tests):
     host = Host(tests.program, path, *PARTY, "--expire", "1")
     time.sleep(2.1)
     tests.check("longer, by a third", (host.ask("abandon", session=longer)["abandoned"], host.end()[0]), (True, 0))
-    for words, why in ((["--expire", "x"], "no number of seconds from 1 to 1000000"), (["--expire", "0"], "no number of seconds from 1 to 1000000"),
-                       (["--expire", "1000001"], "no number of seconds from 1 to 1000000"), (["--max-credentials", "0"], "no number from 1 to 1000000"),
-                       (["--max-credentials", "1000001"], "no number from 1 to 1000000"),
-                       (["--max-credentials", "x"], "no number from 1 to 1000000"), (["--at-least", "-"], "no number")):
+    for words, why in ((["--expire", "x"], "a number of seconds from 1 to 1000000"), (["--expire", "0"], "a number of seconds from 1 to 1000000"),
+                       (["--expire", "1000001"], "a number of seconds from 1 to 1000000"), (["--max-credentials", "0"], "a number from 1 to 1000000"),
+                       (["--max-credentials", "1000001"], "a number from 1 to 1000000"),
+                       (["--max-credentials", "x"], "a number from 1 to 1000000"), (["--at-least", "-"], "a number")):
         tests.check(f"out of bounds: {words}", Host(tests.program, path, *PARTY, *words).end(),
-                    (2, b"", f"the value of {words[0]} is {why}\n"))
+                    (2, b"", f"{words[0]} takes {why}\n"))
 
 
 def texts(tests):
