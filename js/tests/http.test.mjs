@@ -234,13 +234,13 @@ test("a host that has answered already", async (context) => {
 test("a program that dies, and one that never answers", async (context) => {
   const server = stored(), { visitor } = await serving(context, server), ask = visitor(), key = own("key");
   await registered(ask, key);
-  process.kill(children()[0], "SIGSTOP");
+  process.kill(children().at(-1), "SIGSTOP");
   const begin = server.authenticateBegin, begun = [];
   server.authenticateBegin = (...words) => begun[begun.push(begin.apply(server, words)) - 1];
   const pending = Array.from({ length: 10 }, () => ask("sign-in/begin", {}));
   for (let time = 0; time < 600 && begun.length < 10; time++) await new Promise((resolve) => setTimeout(resolve, 50));
   logged.length = 0;
-  process.kill(children()[0], "SIGKILL");
+  process.kill(children().at(-1), "SIGKILL");
   for (const answer of await Promise.all(pending)) assert.deepEqual([answer.status, answer.told, answer.cookies], [503, { error: "the site's storage did not answer: try again" }, []]);
   assert.ok(logged.length === 10 && logged.every((error) => error instanceof StoreFailed));
   assert.equal((await signedIn(ask, key)).status, 200);

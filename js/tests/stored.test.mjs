@@ -442,7 +442,7 @@ test("what could not be started says why", async () => {
   for (const wary of [false, true]) {
     const server = serving("wary.db", { wary });
     assert.deepEqual(await server.rows(), []);
-    assert.equal(readFileSync(`/proc/${children()[0]}/cmdline`, "utf8").split("\0").includes("--wary"), wary);
+    assert.equal(readFileSync(`/proc/${children().at(-1)}/cmdline`, "utf8").split("\0").includes("--wary"), wary);
     await server.close();
   }
   for (const [log, wanted] of [[false, 0], [true, 1], ["all", 1]]) {
@@ -457,23 +457,23 @@ test("a program that is killed or hangs: what was in flight is rejected, the nex
   const server = serving("killed.db", { timeout: 4_000 }), device = new Device();
   await registered(server, device);
   for (const [signal, message] of [["SIGKILL", /ended before it answered/], ["SIGSTOP", /did not answer in 4 seconds|ended before/]]) {
-    process.kill(children()[0], "SIGSTOP");
+    process.kill(children().at(-1), "SIGSTOP");
     const asked = Array.from({ length: 10 }, () => server.authenticateBegin());
     await sleep(200);
-    process.kill(children()[0], signal);
+    process.kill(children().at(-1), signal);
     const found = await Promise.allSettled(asked);
     assert.ok(found.some(({ status }) => status === "rejected"));
     for (const { reason } of found.filter(({ status }) => status === "rejected")) assert.match(reason.message, message);
     assert.deepEqual((await server.rows()).map(({ id }) => Buffer.from(id)), [device.id]);
   }
   const { options, session } = await server.authenticateBegin(), response = device.signIn(options, { user });
-  process.kill(children()[0], "SIGKILL");
+  process.kill(children().at(-1), "SIGKILL");
   await sleep(200);
   assert.equal((await server.authenticateComplete(session, response)).credential.signCount, device.count, "a session outlives the program");
   const again = await server.authenticateBegin();
   assert.equal(await server.abandon(again.session), true);
   assert.ok(numberOf(options) < numberOf(again.options), "no number comes again");
-  process.kill(children()[0], "SIGSTOP");
+  process.kill(children().at(-1), "SIGSTOP");
   await assert.rejects(server.close(), { message: "the program could not close its file" });
   assert.deepEqual(children(), []);
   for (let time = 0; time < 10; time++) {
