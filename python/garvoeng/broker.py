@@ -18,7 +18,7 @@ from collections import deque
 from contextlib import contextmanager
 from pathlib import Path
 from queue import SimpleQueue
-from typing import Deque, Dict, Generator, Iterator, Optional, Sequence
+from typing import Deque, Dict, Generator, Iterator, Optional, Sequence, Tuple
 
 MAX_LINE = 65_536
 """The longest line that the program takes, in bytes."""
@@ -28,6 +28,8 @@ IDLE = 2.0
 """How many seconds a broker stays when nobody is connected."""
 STUCK = 2.0
 """How many seconds a process may take to read its answers."""
+STARTING = 30.0
+"""How many seconds a broker may take to listen."""
 ENDING = 30.0
 """How many seconds the program may take to close its file."""
 _NOTE = b"!"
@@ -99,9 +101,9 @@ class Connection:
     def _started(path: Path, words: Sequence[str], timeout: float) -> socket.socket:
         package = str(Path(__file__).resolve().parents[1])
         command = "import sys; sys.path.insert(0, sys.argv.pop(1)); from garvoeng.broker import main; main()"
-        started = subprocess.Popen([sys.executable, "-c", command, package, str(path), *words], stdin=subprocess.DEVNULL,
+        started = subprocess.Popen([sys.executable, "-c", command, package, str(path), str(timeout), *words], stdin=subprocess.DEVNULL,
                                    stdout=subprocess.DEVNULL, stderr=subprocess.DEVNULL, start_new_session=True)
-        until = time.monotonic() + timeout
+        until = time.monotonic() + STARTING
         while time.monotonic() < until and started.poll() is None:
             found = _connected(path)
             if found is not None:
@@ -144,8 +146,8 @@ class Connection:
 
 
 class _Broker:
-    def __init__(self, path: Path, words: Sequence[str]) -> None:
-        self.path = path
+    def __init__(self, path: Path, words: Sequence[str], timeout: float = 30.0) -> None:
+        self.path, self.timeout, self.is_killed = path, timeout, False
         path.unlink(missing_ok=True)
         self.listening = socket.socket(socket.AF_UNIX)
         before = os.umask(0o177)
@@ -160,7 +162,7 @@ class _Broker:
         os.set_blocking(self.stdin, False)
         self.peers: Dict[socket.socket, bytes] = {}
         self.unwritten, self.answered = b"", b""
-        self.asked: Deque[socket.socket] = deque()
+        self.asked: Deque[Tuple[socket.socket, float]] = deque()
         self.notes: Deque[bytes] = deque(maxlen=8)
 
     def _accept(self) -> None:
@@ -194,18 +196,33 @@ class _Broker:
         *lines, self.peers[peer] = (self.peers[peer] + data).split(b"\n")
         for line in lines:
             if line.startswith(b"{") and len(line) < MAX_LINE:
-                self.asked.append(peer)
+                self.asked.append((peer, time.monotonic()))
                 self.unwritten += line + b"\n"
             else:
                 data = b""
         if not data or len(self.peers[peer]) >= MAX_LINE:
             self._drop(peer)
 
+    def _tell_all(self, note: bytes) -> None:
+        for peer in list(self.peers):
+            self._tell(peer, _NOTE + note + b"\n")
+
     def _note(self) -> None:
         for line in os.read(self.stderr, 65_536).splitlines():
             self.notes.append(_NOTE + line + b"\n")
-            for peer in list(self.peers):
-                self._tell(peer, self.notes[-1])
+            self._tell_all(line)
+
+    def _is_silent(self) -> bool:
+        """Whether the oldest line has waited too long. The program is killed then, since it may not end by itself."""
+        if not self.asked or time.monotonic() - self.asked[0][1] <= self.timeout:
+            return False
+        self._tell_all(b"the program did not answer in %g seconds" % self.timeout)
+        self._kill()
+        return True
+
+    def _kill(self) -> None:
+        self.is_killed = True
+        self.program.kill()
 
     def _answer(self) -> bool:
         """Passes answers to the connections. Returns false if the program has ended or failed, and so has to be started anew."""
@@ -213,7 +230,7 @@ class _Broker:
         *lines, self.answered = (self.answered + data).split(b"\n")
         failed = not data
         for line in lines:
-            self._tell(self.asked.popleft(), line + b"\n")
+            self._tell(self.asked.popleft()[0], line + b"\n")
             failed = failed or (b'"failed"' in line and "failed" in json.loads(line))
         return not failed
 
@@ -225,7 +242,7 @@ class _Broker:
             ready, writable, _ = select.select([self.listening, self.stdout, self.stderr, *self.peers], writing, [], 0.5)
             if self.stderr in ready:
                 self._note()
-            if self.stdout in ready and not self._answer():
+            if (not self._answer()) if self.stdout in ready else self._is_silent():
                 return False
             if self.listening in ready:
                 self._accept()
@@ -265,22 +282,25 @@ class _Broker:
                 self._end(nobody)
                 return
 
+    def _rest(self) -> bytes:
+        """The program's last messages. A program that does not end in time is killed; one that it has started may hold its pipes."""
+        for _ in range(2):
+            try:
+                return self.program.communicate(timeout=STUCK if self.is_killed else ENDING)[1]
+            except subprocess.TimeoutExpired:
+                self._kill()
+        return b""
+
     def _end(self, nobody: bool) -> None:
         while not nobody and select.select([self.listening], [], [], 0)[0]:
             self._accept()
         self.listening.close()
-        try:
-            _, rest = self.program.communicate(timeout=ENDING)
-        except subprocess.TimeoutExpired:
-            self.program.kill()
-            _, rest = self.program.communicate()
-        for line in rest.splitlines():
-            for peer in list(self.peers):
-                self._tell(peer, _NOTE + line + b"\n")
+        for line in self._rest().splitlines():
+            self._tell_all(line)
         for peer in list(self.peers):
             self._drop(peer)
 
 
 def main() -> None:
-    """The broker: SOCKET PROGRAM WORDS .."""
-    _Broker(Path(sys.argv[1]), sys.argv[2:]).run()
+    """The broker: SOCKET TIMEOUT PROGRAM WORDS .."""
+    _Broker(Path(sys.argv[1]), sys.argv[3:], float(sys.argv[2])).run()

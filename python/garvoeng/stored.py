@@ -75,10 +75,10 @@ def _answer(line: bytes, number: int) -> Dict[str, Any]:
 class _Process:
     """A run of the program. Each line has a number, and the answers come in the order of the lines."""
 
-    def __init__(self, words: Sequence[str], shared: bool) -> None:
+    def __init__(self, words: Sequence[str], shared: bool, timeout: float) -> None:
         self.process: Union["subprocess.Popen[bytes]", Connection]
         try:
-            self.process = Connection(words) if shared else subprocess.Popen(words, stdin=PIPE, stdout=PIPE, stderr=PIPE)
+            self.process = Connection(words, timeout) if shared else subprocess.Popen(words, stdin=PIPE, stdout=PIPE, stderr=PIPE)
         except OSError as error:
             raise StoreFailed(f"the program can't be started: {error}") from None
         self.writing = threading.Lock()
@@ -228,7 +228,8 @@ class StoredServer:
     began, also if the program ended meanwhile. `max_credentials` is the greatest number of credentials; both are from 1 to 1,000,000. With
     `log` the program logs each refusal, and with `log="all"` also each acceptance and each error, to the logger `garvoeng` of `logging`.
     With `shared`, which is for Linux, all processes of this user that name the same file and the same parameters share one program, through
-    a Unix socket that nobody else can open; it ends two seconds after the last of them. `verify(algorithm, x, y, message, signature)`
+    a Unix socket that nobody else can open; it ends two seconds after the last of them, and the `timeout` of the process that started it
+    holds for it. `verify(algorithm, x, y, message, signature)`
     returns whether a signature is valid; by default `cryptography` checks it.
     """
 
@@ -285,7 +286,7 @@ class StoredServer:
                 self._process.end(self.timeout)
                 self._process = None
             if self._process is None:
-                self._process = _Process(self._words, self.shared)
+                self._process = _Process(self._words, self.shared, self.timeout)
             return self._process
 
     def _ask(self, act: str, **members: Any) -> Dict[str, Any]:

@@ -430,6 +430,43 @@ def test_an_answer_that_is_cut_off(folder, said):
     site.close()
 
 
+CUT = """#!{python}
+import os, sys, time
+if os.path.exists("{folder}/began"):
+    os.execv("{program}", ["{program}", *sys.argv[1:]])
+open("{folder}/began", "w").close()
+for _ in range(8):
+    sys.stdin.buffer.readline()
+os.write(1, b'{{"id":1,"rows":[')
+open("{folder}/cut", "w").close()
+{then}
+"""
+
+
+@pytest.mark.parametrize("then", ["", "time.sleep(600)", "os.fork() or time.sleep(60)", "killed"])
+def test_threads_that_wait_for_an_answer_that_is_cut_off(folder, then):
+    """The program writes half a line, and ends, says nothing more, leaves its pipe to another, or is killed: no thread waits longer than
+    the limit, and the next call has another program."""
+    script = folder / "passkey"
+    script.write_text(CUT.format(python=sys.executable, folder=folder, program=PROGRAM, then="time.sleep(600)" if then == "killed" else then))
+    script.chmod(0o755)
+    site = StoredServer(str(script), str(folder / "site.db"), "example.com", ["https://example.com"], shared=True, timeout=5)
+    with ThreadPoolExecutor(8) as pool:
+        began = time.monotonic()
+        calls = [pool.submit(answers, site) for _ in range(8)]
+        if then == "killed":
+            assert until((folder / "cut").exists)
+            for pid in running(folder / "site.db", "broker"):
+                # Of the processes that name the file one is the broker, and the other one its program.
+                if "garvoeng.broker" not in Path(f"/proc/{pid}/cmdline").read_text():
+                    os.kill(pid, signal.SIGKILL)
+        assert [call.result(60) for call in calls].count(False) >= 1
+        assert time.monotonic() - began < 20
+    # A call may meet the broker while it ends.
+    assert until(lambda: answers(site), 40) and site.rows() == []
+    site.close()
+
+
 @pytest.mark.parametrize("shared", [True, False])
 def test_a_fork_after_a_call(folder, shared):
     """Parent and child both go on, again and again; without `shared` the child has no program, and the parent's goes on."""
