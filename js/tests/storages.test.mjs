@@ -121,6 +121,10 @@ const SITE = {
     await assert.rejects(server.registerComplete(session, {}), { name: "BadInput", text: "response is missing" });
     assert.deepEqual((await server.registerComplete(session, good)).credential.id, bytes(device.id));
     await refused(server.registerComplete(session, good), "G1");
+    // Whichever of the two ids is registered, it is refused because they differ.
+    const begun = await server.registerBegin(other, "name");
+    for (const [attested, named] of [["new", device.id], ["key", Buffer.from("new")], ["new", Buffer.from("ne")], ["new", Buffer.from("new ")]])
+      await refused(server.registerComplete(begun.session, { ...answerOf(key(attested), begun.options), id: toText(named), rawId: toText(named) }), "G19");
     await refused(registers(server, device, other), "G15");
     assert.equal(await server.retire(device.id), true);
     await refused(registers(server, device), "G15");

@@ -141,6 +141,11 @@ def refusals_of_registrations(visit):
         visit.server.register_complete(session, {})
     assert visit.server.register_complete(session, good).credential.id == device.id
     assert visit.refused(visit.server.register_complete, session, good) == "G1"
+    # Whichever of the two ids is registered, it is refused because they differ.
+    options, session = visit.server.register_begin(OTHER, "name")
+    for attested, named in ((b"new", device.id), (device.id, b"new"), (b"new", b"ne"), (b"new", b"new ")):
+        response = {**visit.response(Device(credential=attested), options), "id": to_text(named), "rawId": to_text(named)}
+        assert visit.refused(visit.server.register_complete, session, response) == "G19"
     assert visit.refused(visit.registers, device, OTHER) == "G15" and visit.server.retire(device.id)
     assert visit.refused(visit.registers, device) == "G15"
 
