@@ -140,6 +140,18 @@ test("what a parser made of a body has no members but its own", async (context) 
   }
 });
 
+test("what other programs leave in Object.prototype is no header", async (context) => {
+  const { port, site, visitor } = await serving(context, memory(), inApp()), ask = visitor();
+  await registered(ask, own("key"));
+  const added = { cookie: `garvoeng=${ask.jar.garvoeng}`, origin: "http://localhost", "content-length": "2" };
+  for (const [name, value] of Object.entries(added)) Object.defineProperty(Object.prototype, name, { value, configurable: true, writable: true });
+  try {
+    assert.deepEqual([await site.signedIn({ headers: {} }), (await sent(port, { headers: { "sec-fetch-site": "cross-site" } })).status, (await fetch(`http://localhost:${port}/passkeys/list`)).status], [null, 403, 401]);
+  } finally {
+    for (const name of Object.keys(added)) delete Object.prototype[name];
+  }
+});
+
 test("a refusal and a fault of the storage are answered, and not Express's; what the site throws is Express's alone", async (context) => {
   let isClosed = false;
   const server = memory(), accounts = { signedIn() { if (isClosed) throw new Denied("later", 409); } }, { visitor } = await serving(context, server, inApp(), { accounts }), ask = visitor(), key = own("key");
