@@ -164,11 +164,13 @@ test("a body that was read elsewhere is taken where it is handed on, and else is
 
 test("a request that has ended, of which nothing comes any more", async () => {
   const server = memory(), site = passkeys(server, { logger: () => {}, timeout: 200 });
-  for (const [more, status] of [[{ destroyed: true }, 400], [{ readableEnded: true }, 500], [{ readableDidRead: true }, 500], [{ readableEnded: true, body: {} }, 200], [{}, 400]]) {
-    const response = { headersSent: false, setHeader() {}, appendHeader() {}, end() {} };
+  for (const [more, status, text] of [[{ destroyed: true }, 400, /the request ended early/], [{ readableEnded: true }, 500, /read before/], [{ readableDidRead: true }, 500, /read before/], [{ readableEnded: true, body: {} }, 200, /challenge/],
+                                      [{}, 400, /did not come in 0.2 seconds/]]) {
+    const response = { headersSent: false, setHeader() {}, appendHeader() {}, end(body) { this.body = body; } };
     const call = site({ method: "POST", url: "/passkeys/sign-in/begin", headers: { "content-type": "application/json" }, on() {}, ...more }, response);
     await Promise.race([call, new Promise((resolve) => setTimeout(resolve, 5_000))]);
     assert.equal(response.statusCode, status, JSON.stringify(more));
+    assert.match(response.body, text);
   }
 });
 
