@@ -169,9 +169,3 @@ test("a refusal and a fault of the storage are answered, and not Express's; what
   const thrown = await ask("sign-in/begin", {});
   assert.deepEqual([thrown.status, thrown.told, thrown.cookies], [500, { express: "of the site" }, []]);
 });
-
-test("what is no request of Express is the site's mistake, which each call tells", async (context) => {
-  const { site } = await serving(context, memory(), inApp()), fetched = new Request("http://localhost/", { headers: { cookie: "garvoeng=x" } });
-  for (const [wrong, message] of [[undefined, /hand in that of the framework/], [null, /framework/], [7, /framework/], [{}, /framework/], [{ headers: null }, /framework/], [fetched, /one of fetch: passkeys of garvoeng\/site takes it/]])
-    for (const call of [() => site.signedIn(wrong), () => site.visitor(wrong), () => site.fresh(wrong, 5), () => site.end(wrong)]) await assert.rejects(call, { name: "BadInput", message });
-});
