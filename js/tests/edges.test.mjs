@@ -72,6 +72,10 @@ test("a cookie of a name counts once: the first one", async () => {
   assert.equal(toText(await who(`a=b; ${mine}; garvoeng=planted`)), toText(key.user));
   for (const cookie of [`garvoeng=planted; ${mine}`, `garvoeng=; ${mine}`, `xgarvoeng=${ask.jar.garvoeng}`, `Garvoeng=${ask.jar.garvoeng}`, `garvoeng="${ask.jar.garvoeng}"`, `garvoeng=${"a".repeat(4097)}`])
     assert.equal(await who(cookie), null, cookie);
+  const given = [], complete = site.server.authenticateComplete.bind(site.server), text = (size) => "a".repeat(size);
+  site.server.authenticateComplete = (session, said) => (given.push(session), complete(session, said));
+  for (const size of [4096, 4097]) assert.equal((await site.visitor({ garvoeng_sign_in: text(size) })("sign-in/finish", key.signIn({ challenge: "AA" }, { user: key.user }))).told.refusal, "W1");
+  assert.deepEqual(given, [text(4096), null], "one that is too long is none");
 });
 
 test("a registration of nobody is finished by nobody: who signs in meanwhile gets no other account by it", async () => {

@@ -60,7 +60,7 @@ test("each act by its own method alone: nothing is begun, ended or told by anoth
     }
   for (const method of ["POST", "PUT"]) assert.deepEqual((({ status, headers }) => [status, headers.allow])(await sent(site.port, { method, path: "/passkeys/list", headers: { cookie } })), [405, "GET"]);
   const head = await sent(site.port, { method: "HEAD", path: "/passkeys/list", headers: { cookie } });
-  assert.deepEqual([head.status, head.text, head.headers["cache-control"], head.headers.vary], [200, "", "no-store", "Cookie"]);
+  assert.deepEqual([head.status, head.text, head.headers["cache-control"], head.headers.vary, head.headers["x-content-type-options"]], [200, "", "no-store", "Cookie", "nosniff"]);
   assert.equal((await ask("list")).told.length, 1, "who is signed in is so still");
 });
 
