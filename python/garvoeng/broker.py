@@ -242,7 +242,10 @@ class _Broker:
             ready, writable, _ = select.select([self.listening, self.stdout, self.stderr, *self.peers], writing, [], 0.5)
             if self.stderr in ready:
                 self._note()
-            if (not self._answer()) if self.stdout in ready else self._is_silent():
+            if self.stdout in ready:
+                if not self._answer():
+                    return False
+            elif self._is_silent():
                 return False
             if self.listening in ready:
                 self._accept()
