@@ -1,51 +1,7 @@
 """The weakenings that ./dev weaken tries: a name; what it asks less; the edits, of which the first is the definition's, and the others
 change with it the proofs that show what it asks, so that what is refused is what rests on it."""
-
-SIGN_IN = "verification/specs/SignIn.antt"
-REGISTRATION = "verification/specs/Registration.antt"
-SHARED = "verification/specs/Shared.antt"
-DIFFERING = "verification/proofs/Differing.antt"
-STEPS = "authenticator/specs/Steps.antt"
-SOUNDNESS = "authenticator/proofs/Soundness.antt"
-ORDERS = "authenticator/specs/Orders.antt"
-SITE = "site/specs/State.antt"
-SESSIONS = "site_state/specs/Sessions.antt"
-GOINGS = "site/proofs/Goings.antt"
-WORLD = "agreement/specs/World.antt"
-HONEST = "agreement/specs/Honest.antt"
-SITES = "agreement/proofs/Sites.antt"
-BEGAN = "agreement/proofs/Began.antt"
-RETIRED = "agreement/proofs/Retired.antt"
-DELETED = "agreement/proofs/Deleted.antt"
-LEDGER = "agreement/proofs/Ledger.antt"
-SIGNING_IN = "agreement/proofs/SigningIn.antt"
-REGISTERING = "agreement/proofs/RegistrationSteps.antt"
-ACCEPTED = "agreement/proofs/Accepted.antt"
-LIVED = "agreement/proofs/Lived.antt"
-ONE_RUN = "agreement/proofs/OneRun.antt"
-EVERYTHING = "agreement/proofs/Everything.antt"
-AGREEMENT = "agreement/specs/Agreement.antt"
-FORGERIES = "agreement/specs/Forgeries.antt"
-PAGES = "agreement/specs/Pages.antt"
-PAGED = "agreement/proofs/Pages.antt"
-STAYS = "agreement/specs/Stays.antt"
-STAYED = "agreement/proofs/Stayed.antt"
-BEGUN = "agreement/specs/Begun.antt"
-DROPPED = "agreement/specs/Dropped.antt"
-DROPPING = "agreement/proofs/Dropped.antt"
-REGISTERED = "agreement/proofs/Registered.antt"
-HOSTS = "agreement/specs/Hosts.antt"
-STORED = "site_stored/specs/Calls.antt"
-HISTORY = "stored_runs/specs/History.antt"
-PIN_STEPS = "key_pin/specs/Steps.antt"
-PIN_STATE = "key_pin/specs/State.antt"
-PIN_HOST = "key_pin/specs/Host.antt"
-PIN_GRANTS = "key_pin/specs/Grants.antt"
-PIN_OUTCOMES = "key_pin/specs/Outcomes.antt"
-AMONG = "stored_runs/specs/Among.antt"
-STAGES = "stored_runs/proofs/Stages.antt"
-DATA = "(a : AuthenticatorData) → AuthOf x.rp.profile a x.response.auth_data → "
-GIVEN = "record { present = true; verified = true }"
+import weakenings_of_stores
+from weakened_files import *
 
 
 # that Level 3 and the open profile ask the same in a step is shown of what the step asks
@@ -225,7 +181,7 @@ WEAKENINGS = [
     ("honest_never", "no run is honest", [
         (HONEST, "  pub idle : IsIdleOn x.registering.channel x.registering.before\n", "  pub never : ⊥\n  pub idle : IsIdleOn x.registering.channel x.registering.before\n")]),
     ("ideal_never", "signatures are always forged", [
-        ("agreement/specs/Agreement.antt", "→ WasMade m.old row.key → WasSigned m.old row.key (message_of r)\n", "→ WasMade m.old row.key → ⊥\n"),
+        (AGREEMENT, "→ WasMade m.old row.key → WasSigned m.old row.key (message_of r)\n", "→ WasMade m.old row.key → ⊥\n"),
         (ACCEPTED, "(ideal i n r row acc.tries (signature_valid m l i n r row acc) made)\n", "(absurd (ideal i n r row acc.tries (signature_valid m l i n r row acc) made))\n")]),
     ("no_restarts", "no site restarts", [
         (WORLD, "pub record Loads (s t : site.SiteState) : Type 0 where\n", "pub record Loads (s t : site.SiteState) : Type 0 where\n  pub never : ⊥\n")]),
@@ -234,6 +190,16 @@ WEAKENINGS = [
             "Restarted (old.holder k).state state × ChangesHolder old new k (after_restart (old.holder k) state) × ⊥\n")]),
     ("no_reopens", "no site is opened again", [
         (WORLD, "pub record IsReopened (s t : site.SiteState) : Type 0 where\n", "pub record IsReopened (s t : site.SiteState) : Type 0 where\n  pub never : ⊥\n")]),
+    ("reopens_alike", "a site is opened again with the same pages and profile alone", [
+        (WORLD, "pub record IsReopened (s t : site.SiteState) : Type 0 where\n", "pub record IsReopened (s t : site.SiteState) : Type 0 where\n  pub alike : t.rp ≡ s.rp\n")]),
+    ("reopens_elsewhere", "a site is opened again for another rp id", [
+        (WORLD, "pub record IsReopened (s t : site.SiteState) : Type 0 where\n  pub rp_id : t.rp.rp_id ≡ s.rp.rp_id\n", "pub record IsReopened (s t : site.SiteState) : Type 0 where\n")]),
+    ("reopens_without_rows", "a site that is opened again may have other credentials", [
+        (WORLD, "  pub rows : t.rows ≡ s.rows\n  pub sessions : t.sessions ≡ record s.sessions", "  pub sessions : t.sessions ≡ record s.sessions")]),
+    ("reopens_with_sessions", "a site that is opened again may have other sessions", [
+        (WORLD, "  pub rows : t.rows ≡ s.rows\n  pub sessions : t.sessions ≡ record s.sessions { max_open = t.sessions.max_open }\n", "  pub rows : t.rows ≡ s.rows\n")]),
+    ("loads_alike", "a site restarts with the same pages and profile alone", [
+        (WORLD, "  pub rp_id : t.rp.rp_id ≡ s.rp.rp_id\n  pub none_open", "  pub rp_id : t.rp ≡ s.rp\n  pub none_open")]),
     ("no_expires", "no session expires", [
         (WORLD, "pub record EndsSessions (s t : site.SiteState) : Type 0 where\n", "pub record EndsSessions (s t : site.SiteState) : Type 0 where\n  pub never : ⊥\n")]),
     ("no_retires", "no credential is retired", [
@@ -490,46 +456,11 @@ WEAKENINGS = [
     ("loaded_party", "a site loads as another relying party", [
         (WORLD, "  pub rp_id : t.rp.rp_id ≡ s.rp.rp_id\n  pub none_open", "  pub rp_id : Unit {0}\n  pub none_open"),
         ("agreement/proofs/CallsActed.antt", "  rp_id = ap (λ (x : SiteState). x.rp.rp_id) loaded.1 ∙ same;\n", "  rp_id = tt;\n"),
-        ("agreement/proofs/Everything.antt", "rp_id = refl;\n                                    none_open", "rp_id = tt;\n                                    none_open")]),
+        (EVERYTHING, "rp_id = refl;\n                                    none_open", "rp_id = tt;\n                                    none_open")]),
     # more of hosts' runs
     ("host_unbound", "a host's relation need not be within the wide one", [
         (HOSTS, "((i : I) × IsWithin (narrow i) wide × Happens", "((i : I) × Unit {0} × Happens")]),
     ("host_apart", "a host's moments need not follow one another", [
         (HOSTS, "    (m.old ≡ w) × ((i : I)", "    Unit {0} × ((i : I)")]),
-    # of a site over a store
-    ("stored_steps", "a stored site's sign-in passes no step", [
-        (STORED, "  pub passes : PassesSignIn valid (judged_sign_in s (Some expected) (Some credential) r)\n", "  pub passes : Unit {0}\n")]),
-    ("stored_credential", "a stored site signs in by any credential", [
-        (STORED, "  pub found : IsAt placed r.credential place credential\n", "  pub found : Unit {0}\n")]),
-    ("stored_counter", "a stored site keeps no counter that came", [
-        (STORED, "finite.insert placed place (signed_in data_read.sign_count (is_set data_read.flags BE) credential)", "finite.insert placed place credential")]),
-    ("stored_registration", "a stored site's registration passes no step", [
-        (STORED, "TellsIds placed is_registered → PassesRegistration valid (judged_registration s (Some expected) is_registered r)", "TellsIds placed is_registered → Unit {0}")]),
-    ("stored_user", "a stored site registers for no user", [(STORED, "  user = e.user;\n", "  user = c.id;\n")]),
-    ("stored_retirement", "a stored site retires nothing", [
-        (STORED, "(c.retired ≡ false) × (after ≡ finite.insert placed place (retired c))", "(c.retired ≡ false) × (after ≡ placed)")]),
-    ("stored_deletion", "a stored site deletes nothing", [
-        (STORED, "IsAt placed id place c × (after ≡ finite.remove placed place)", "IsAt placed id place c × (after ≡ placed)")]),
-    ("stored_numbers", "a commit gives numbers anew", [
-        (STORED, "        next = max old.next old.durable;\n", "        next = 1;\n")]),
-    ("stored_trees", "an open finds any trees", [
-        (HISTORY, "  pub trees : new.trees ≡ kept.trees\n", "  pub trees : Unit {0}\n"),
-        (STAGES, "record { trees = refl; rp_id = refl;", "record { trees = tt; rp_id = refl;")]),
-    ("stored_party", "an open finds another rp id", [
-        (HISTORY, "  pub rp_id : new.state.rp.rp_id ≡ kept.state.rp.rp_id\n", "  pub rp_id : Unit {0}\n"),
-        (STAGES, "record { trees = refl; rp_id = refl;", "record { trees = refl; rp_id = tt;")]),
-    ("stored_commit", "what is told need not be committed", [
-        (AMONG, "commits (Stores (Opens finds_all)) rest = finds_all\n", "commits (Stores (Opens finds_all)) rest = true\n")]),
-    # of a key's PIN
-    ("pin_any_param", "any pinUvAuthParam counts", [
-        (PIN_HOST, "  if bytes_eq (shortened protocol tag) param then Ok tt else Err (refused 0x33)\n", "  if true then Ok tt else Err (refused 0x33)\n"),
-        (PIN_HOST, "use Rattle.std.specs.Prelude.{ℕ, ◌==◌,", "use Rattle.std.specs.Prelude.{true, ℕ, ◌==◌,")]),
-    ("pin_default_for_all", "getPinToken gives each permission", [
-        (PIN_STEPS, "Ok (begun, record { permissions = 3; rp_id = None })", "Ok (begun, record { permissions = 255; rp_id = None })")]),
-    ("pin_unbound", "a token that was used is for each rp id still", [
-        (PIN_GRANTS, "bound rp_id t = record t { rp_id = Some rp_id }", "bound rp_id t = t")]),
-    ("pin_unspent", "a token that was used keeps its permissions", [
-        (PIN_STATE, "without_permissions t = record t { permissions = 0 }", "without_permissions t = t")]),
-    ("pin_retries_untold", "eight retries are told, however many are left", [
-        (PIN_OUTCOMES, "told_retries p = record nothing_told { pin_retries = Some p.retries;", "told_retries p = record nothing_told { pin_retries = Some 8;")]),
+    *weakenings_of_stores.WEAKENINGS,
 ]
