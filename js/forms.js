@@ -158,3 +158,9 @@ export function descriptor({ id, transports }) {
   const made = { type: "public-key", id: toText(id) };
   return transports.length === 0 ? made : { ...made, transports };
 }
+
+/** The 16 bytes of an aaguid as UUIDs are written. */
+export function uuidOf(aaguid) {
+  const digits = Array.from(aaguid, (byte) => byte.toString(16).padStart(2, "0")).join("");
+  return digits.replace(/^(.{8})(.{4})(.{4})(.{4})(.{12})$/, "$1-$2-$3-$4-$5");
+}

@@ -3,8 +3,9 @@
 import { randomBytes } from "node:crypto";
 import { RegistrationSession, Server, SignInSession, coseKeyOf, credentialFromCose } from "./index.js";
 import { BadInput, Refused } from "./errors.js";
-import { fromText, toText } from "./forms.js";
+import { fromText, toText, uuidOf } from "./forms.js";
 import { ALGORITHMS, checkBytes, checkFlag, checkText, checkUser, checkWhole, optionsIn, shown } from "./limits.js";
+import { userVerificationOf } from "./options.js";
 
 const CHALLENGE = 32;
 const TIMEOUT = 60_000;
@@ -113,10 +114,6 @@ function checkType(expectedType, type) {
   if (expectedType !== undefined && !textsOf(expectedType, "expectedType").includes(type)) throw new BadInput(`expectedType is ${shown(expectedType)}: write ${type}`);
 }
 
-function uuidOf(aaguid) {
-  return Array.from(aaguid, (byte) => byte.toString(16).padStart(2, "0")).join("").replace(/^(.{8})(.{4})(.{4})(.{4})(.{12})$/, "$1-$2-$3-$4-$5");
-}
-
 const OF_RESPONSE = ["response", "expectedChallenge", "expectedOrigin", "expectedRPID", "expectedType", "requireUserVerification"];
 
 /** Verifies a registration: `{ verified, registrationInfo }`. Throws `Refused` and `BadInput`; `verified` is false if the attestation's
@@ -160,7 +157,8 @@ export async function verifyAuthenticationResponse(options) {
   const { response, expectedChallenge, expectedOrigin, expectedRPID, expectedType, requireUserVerification = true, credential, advancedFIDOConfig } =
     optionsIn(options, "verifyAuthenticationResponse", [...OF_RESPONSE, "credential", "advancedFIDOConfig"]);
   checkType(expectedType, "webauthn.get");
-  const isRequired = advancedFIDOConfig?.userVerification === undefined ? checkFlag(requireUserVerification, "requireUserVerification") : advancedFIDOConfig.userVerification === "required";
+  const { userVerification } = optionsIn(advancedFIDOConfig, "advancedFIDOConfig", ["userVerification"]);
+  const isRequired = userVerification === undefined ? checkFlag(requireUserVerification, "requireUserVerification") : userVerificationOf(userVerification) === "required";
   const { user, stored } = storedOf(credential, response);
   const session = new SignInSession({ challenge: await expectedChallengeOf(expectedChallenge, response), user, userVerification: isRequired });
   const infoOf = (counter, more) => ({ newCounter: counter, credentialID: toText(stored.id), ...more });

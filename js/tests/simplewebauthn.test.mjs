@@ -74,6 +74,7 @@ test("a sign-in with one thing wrong", async () => {
   for (const [more, text] of [
     [{ credential: undefined }, "publicKey"], [{ credential: { ...credential, publicKey: new Uint8Array(3) } }, "COSE_Key"], [{ credential: { ...credential, counter: "0" } }, ""], [{ requireUserVerification: null }, "requireUserVerification"],
     [{ expectedChallenge: async () => 1 }, "true or false"],
+    [{ advancedFIDOConfig: { userVerification: "Required" } }, "userVerification"], [{ advancedFIDOConfig: { userverification: "required" } }, "no option"], [{ advancedFIDOConfig: "required" }, "advancedFIDOConfig"],
   ]) await assert.rejects(verifyAuthenticationResponse({ ...right, ...more }), (error) => (error instanceof BadInput || error instanceof TypeError || error.name === "RowDamaged") && error.message.includes(text), JSON.stringify(more));
 });
 

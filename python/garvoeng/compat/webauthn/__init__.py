@@ -4,6 +4,7 @@ from __future__ import annotations
 
 import os
 from typing import Any, Callable, List, Mapping, Optional, Sequence, TypeVar, Union
+from uuid import UUID
 
 from ... import BadInput, Credential, Refused, RegistrationSession, RowDamaged, Server, SignInSession
 from ...forms import from_text, to_text
@@ -109,7 +110,7 @@ def verify_registration_response(*, credential: Union[str, Mapping[str, Any], Re
     told = _judged(expected_rp_id, expected_origin, lambda server: server.register_complete_parts(
         session, made.response.attestation_object, made.response.client_data_json, raw_id=made.raw_id, is_registered=False), InvalidRegistrationResponse)
     return VerifiedRegistration(
-        credential_id=told.credential.id, credential_public_key=told.credential.cose_key, sign_count=told.credential.sign_count, aaguid=_uuid(told.aaguid), fmt=told.format,
+        credential_id=told.credential.id, credential_public_key=told.credential.cose_key, sign_count=told.credential.sign_count, aaguid=str(UUID(bytes=told.aaguid)), fmt=told.format,
         credential_type="public-key", user_verified=told.user_verified, attestation_object=made.response.attestation_object,
         credential_device_type=_device_type(told.credential), credential_backed_up=told.backed_up)
 
@@ -136,8 +137,3 @@ def verify_authentication_response(*, credential: Union[str, Mapping[str, Any], 
 
 def _device_type(credential: Credential) -> CredentialDeviceType:
     return CredentialDeviceType.MULTI_DEVICE if credential.eligible else CredentialDeviceType.SINGLE_DEVICE
-
-
-def _uuid(aaguid: bytes) -> str:
-    text = aaguid.hex()
-    return "-".join((text[:8], text[8:12], text[12:16], text[16:20], text[20:]))
