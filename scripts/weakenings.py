@@ -341,7 +341,7 @@ WEAKENINGS = [
         (ACCEPTED, "(a.id ∙ same) ∙ al.tries.found in", "(a.id ∙ ap (λ (z : AuthenticatorAssertionResponse). z.credential) same) ∙ al.tries.found in")]),
     ("begun_at_the_end", "what a session expects is told only where the run ends", [
         (BEGUN, "IsRun valid public w (past ++ later)\n", "IsRun valid public w (past ++ later) → later ≡ []\n"),
-        (BEGUN, "use Rattle.std.specs.Prelude.{◌≡◌, ℕ, List, ◌∷◌,", "use Rattle.std.specs.Prelude.{◌≡◌, ℕ, List, [], ◌∷◌,"),
+        (BEGUN, "use Rattle.std.specs.Prelude.{◌≡◌, ◌<◌, ◌^◌, ℕ, List, ◌∷◌,", "use Rattle.std.specs.Prelude.{◌≡◌, ◌<◌, ◌^◌, ℕ, List, [], ◌∷◌,"),
         (BEGAN, "  began w past later start run =\n", "  began w past later start run ends =\n")]),
     ("dropped_in_part", "a credential goes by what leaves some", [
         (DROPPED, "    → credential_of c.id (m.old.holder k).state.credentials ≡ Some c → credential_of", "    → (m.new.holder k).state.credentials ≢ [] → credential_of c.id (m.old.holder k).state.credentials ≡ Some c → credential_of"),

@@ -111,10 +111,10 @@ WEAKENINGS = [
         (RETIRED, "Elements.{", "Elements.{All-weaker, ")]),
     ("premise_once_sites", "two sign-ins at one site may rest on one entry", [
         (AGREEMENT, "IsAccepted m i n r row → IsAccepted l j k t low\n    → (sha256", "IsAccepted m i n r row → IsAccepted l j k t low → i ≢ j\n    → (sha256"),
-        (ACCEPTED, "i j n k r t row low am al apart clear e rm rl =", "i j n k r t row low am al two apart clear e rm rl =")]),
+        (ACCEPTED, "i j n k r t row low am al apart clear own e rm rl =", "i j n k r t row low am al two apart clear own e rm rl =")]),
     ("premise_once_key", "two sign-ins for credentials of two keys may rest on one entry", [
         (AGREEMENT, "IsAccepted m i n r row → IsAccepted l j k t low\n    → (sha256", "IsAccepted m i n r row → IsAccepted l j k t low → row.key ≡ low.key\n    → (sha256"),
-        (ACCEPTED, "i j n k r t row low am al apart clear e rm rl =", "i j n k r t row low am al one apart clear e rm rl =")]),
+        (ACCEPTED, "i j n k r t row low am al apart clear own e rm rl =", "i j n k r t row low am al one apart clear own e rm rl =")]),
     ("premise_hosts_run", "a hosts' run has no call that is refused", [
         (HOSTS, "m.old m.event m.end m.new) × IsHostsRun narrow wide public m.new ms\n\npub record", "m.old m.event m.end m.new) × IsHostsRun narrow wide public m.new ms × (m.end ≡ Done)\n\npub record"),
         (HOSTS, "World.{Happens,", "World.{Done, Happens,")]),

@@ -17,22 +17,24 @@ use Rattle.authdata.specs.declared.profile.Profile.TheVariants.{Strict}
 use Rattle.authdata.specs.Layout.{AttestedCredential, AuthenticatorData, AuthOf}
 use Rattle.authdata.specs.Responses.{AuthenticatorAssertionResponse}
 use Rattle.verification.specs.SignIn.{AreUser, PassesSignIn}
-use Rattle.verification.specs.Records.{Credential}
+use Rattle.verification.specs.Records.{Credential, ExpectedSignIn}
 use Rattle.site_state.specs.Table.{row_of}
 use Rattle.site_state.proofs.RowLemmas.{found_id}
-use Rattle.site_state.specs.Sessions.{ForSignIn, challenge_of, sign_in_at}
+use Rattle.site_state.specs.Sessions.{ForSignIn, OpensSignIn, challenge_of, sign_in_at}
 use Rattle.site.specs.State.{SiteState, judged_sign_in}
 use Rattle.site.specs.Laws as site
 use Rattle.site.specs.Laws.{Takes}
 use Rattle.site.proofs.Goings.{none_there}
 use Rattle.authenticator.specs.Laws.{IsSound}
 use Rattle.authenticator.specs.Steps.{Entry, Keys, assertion}
-use Rattle.agreement.specs.World.{Abandons, Asks, AtSite, Begins, Bounds, Deletes, Done, Event, EventEffect, EventEnd, Expires, Happens}
+use Rattle.agreement.specs.World.{Abandons, Asks, AtSite, Begins, BeginsAs, Bounds, Deletes, Done, Event, EventEffect, EventEnd, Expires, Happens}
 use Rattle.agreement.specs.World.{Moment, Registers, RegistersBy, Reloads, Reopens, Restarts, Retires, SignsIn, SignsInBy, SiteEvent, World}
 use Rattle.agreement.specs.Agreement.{Agrees, AnswersSession, Brings, BringsTo, DifferInSession, Fits, IsAccepted, IsDeleted, IsFresh, IsIdeal, IsKnown, RestsOnce}
 use Rattle.agreement.specs.Agreement.{Consented, RestsOn, Says, ShareNone, WasSigned, message_of, session_in}
+use Rattle.agreement.specs.Begun.{BeginsFor, HasOwnChallenges, IsBegun, IsChosen}
 use Rattle.agreement.specs.Below.{Below}
 use Rattle.agreement.specs.Forgeries.{IsBacked, ShowsForgery}
+use Rattle.agreement.proofs.Began.{BegunIn}
 use Rattle.agreement.proofs.Sites.{SignedIn, signs_in, takes}
 use Rattle.agreement.proofs.Spans.{Spans}
 use Rattle.agreement.proofs.Worlds.{Lived, Since}
@@ -53,6 +55,18 @@ record Users (by_session by_response : Option (List ℕ)) (user : List ℕ) : Ty
   pub named : (u : List ℕ) → by_session ≡ Some u → u ≡ user
   pub shown : (u : List ℕ) → by_response ≡ Some u → u ≡ user
   pub someone : by_session ≡ None → by_response ≢ None
+
+-- the challenge is the session's number and then words
+record ByNumber (n : ℕ) (x : ExpectedSignIn) : Type 0 where
+  pub fits : n < 2 ^ 64
+  pub words : List ℕ
+  pub is : x.challenge ≡ challenge_of n words
+
+-- a session for sign-in is begun so, or as its host says
+by_number : (event : SiteEvent) (n : ℕ) (x : ExpectedSignIn) → BeginsFor event n (ForSignIn x) → IsChosen event ⊎ ByNumber n x
+by_number (BeginsAs y) n x h = inl tt
+by_number (Begins (OpensSignIn user allow uv words)) n x h = inr (record { fits = h.3.0; words = words; is = h.3.1 })
+by_number _ n x h = absurd h
 
 not_named : (u : List ℕ) → None ≡ Some u → ⊥
 not_named u e = absurd cc
@@ -268,6 +282,7 @@ module _ (valid : Validity) (public : Keys) (b : Below valid public) where
   session_to (SignsIn k q) n r brings = ap Some brings.0
   session_to (SignsInBy k c ps t) n r brings = ap Some brings.0
   session_to (Begins o) n r brings = absurd brings
+  session_to (BeginsAs x) n r brings = absurd brings
   session_to (Abandons k) n r brings = absurd brings
   session_to (Retires id) n r brings = absurd brings
   session_to (Deletes id) n r brings = absurd brings
@@ -283,16 +298,25 @@ module _ (valid : Validity) (public : Keys) (b : Below valid public) where
   answers_at (Asks k channel bs consent words) i n r brings = absurd brings
   answers_at (Reloads k) i n r brings = absurd brings
 
+  -- two sessions of a site that have one challenge are one: where the challenges begin with their numbers, and where a host chose one that is no other's
+  one_session : (run : List Moment) (i n k : ℕ) (x y : ExpectedSignIn) → HasOwnChallenges run i → IsBegun i n run (ForSignIn x)
+      → IsBegun i k run (ForSignIn y) → x.challenge ≡ y.challenge → n ≡ k
+  one_session run i n k x y own first second same = elim (by_number first.begins n x first.expects) [
+    | inl chosen ↦ own n k (ForSignIn x) (ForSignIn y) first second chosen same
+    | inr number ↦ elim (by_number second.begins k y second.expects) [
+      | inl chosen ↦ sym (own k n (ForSignIn y) (ForSignIn x) second first chosen (sym same))
+      | inr other ↦ (b.sites.one_number n k number.words other.words number.fits other.fits (sym number.is ∙ same ∙ other.is)).0
+    ]
+  ]
+
   -- the session whose challenge the client data have
   pub record Challenged (s : SiteState) (n : ℕ) (r : AuthenticatorAssertionResponse) : Type 0 where
     pub seen : Seen
     pub reads : seen_of r.client_data ≡ Some seen
-    pub challenge : List ℕ
-    pub is : seen.challenge ≡ challenge_text_of challenge
-    pub bytes : IsBytes challenge
-    pub words : List ℕ
-    pub begins : challenge ≡ challenge_of n words
-    pub fits : n < 2 ^ 64
+    pub expected : ExpectedSignIn
+    pub there : finite.get s.sessions.expected n ≡ Some (ForSignIn expected)
+    pub is : seen.challenge ≡ challenge_text_of expected.challenge
+    pub bytes : IsBytes expected.challenge
 
   challenged : (m : Moment) (i n : ℕ) (r : AuthenticatorAssertionResponse) → Lived valid public b m → PassesSignIn valid (judged_sign_in (m.old.site i) n r)
       → Challenged (m.old.site i) n r
@@ -301,20 +325,18 @@ module _ (valid : Validity) (public : Keys) (b : Below valid public) where
       let e = the_one (sign_in_at n (m.old.site i).sessions) passes.0 in
       let x = the_one (seen_of r.client_data) passes.1.1.1.1.0 in
       let there = b.sites.is_open (m.old.site i) n e.0 e.1 in
-      let numbered = s.numbered n (ForSignIn e.0) there in
       record {
         seen = x.0;
         reads = x.1;
-        challenge = e.0.challenge;
+        expected = e.0;
+        there = there;
         is = passes.1.1.1.1.1.1.0 e.0 e.1 x.0 x.1;
         bytes = s.bytes n (ForSignIn e.0) there;
-        words = numbered.1.0;
-        begins = numbered.1.1;
-        fits = numbered.0;
       }
 
-  pub rests_once : (m l : Moment) → Lived valid public b m → Since valid public b m.new l → RestsOnce m l
-  rests_once m l lm s i j n k r t row low am al apart clear e rm rl =
+  pub rests_once : (run : List Moment) (m l : Moment) → Lived valid public b m → Since valid public b m.new l → BegunIn valid public b run m
+      → BegunIn valid public b run l → RestsOnce run m l
+  rests_once run m l lm s begun_first begun_second i j n k r t row low am al apart clear own e rm rl =
       let a = accepted m i n r row lm am in
       let c = accepted l j k t low s.lived al in
       let one = b.readings.one_front (m.old.site i).rp.profile (l.old.site j).rp.profile a.auth c.auth r.auth_data t.auth_data (sha256 r.client_data)
@@ -327,9 +349,12 @@ module _ (valid : Validity) (public : Keys) (b : Below valid public) where
       let x = challenged m i n r lm a.passes in
       let y = challenged l j k t s.lived c.passes in
       let seen : x.seen ≡ y.seen = same_Some x.seen y.seen (sym x.reads ∙ ap seen_of same ∙ y.reads) in
-      let challenges : x.challenge ≡ y.challenge =
-      b.challenge_texts x.challenge y.challenge x.bytes y.bytes (sym x.is ∙ ap (λ (z : Seen). z.challenge) seen ∙ y.is) in
-      let number : n ≡ k = (b.sites.one_number n k x.words y.words x.fits y.fits (sym x.begins ∙ challenges ∙ y.begins)).0 in
+      let challenges : x.expected.challenge ≡ y.expected.challenge =
+      b.challenge_texts x.expected.challenge y.expected.challenge x.bytes y.bytes (sym x.is ∙ ap (λ (z : Seen). z.challenge) seen ∙ y.is) in
+      let began_first = begun_first i n (ForSignIn x.expected) x.there in
+      let began_second = subst (λ (z : ℕ). IsBegun z k run (ForSignIn y.expected)) (sym site) (begun_second j k (ForSignIn y.expected) y.there) in
+      let number : n ≡ k =
+      one_session run i n k x.expected y.expected (own site) began_first began_second challenges in
       let em = answers_at m.event i n r am.tries.brings in
       let el = answers_at l.event j k t al.tries.brings in
       let el_here : AnswersSession l.event i n =

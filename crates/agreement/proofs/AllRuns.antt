@@ -1,4 +1,5 @@
 -- The law over all runs.
+use Rattle.std.proofs.Common.{arith}
 use Rattle.std.proofs.lemmas.List.Elements.{All-from_recursion}
 use Rattle.cose.specs.Schemes.{Validity}
 use Rattle.authenticator.specs.Steps.{Keys}
@@ -9,6 +10,7 @@ use Rattle.agreement.specs.Below.{Below}
 use Rattle.agreement.specs.Forgeries.{ForgeriesOfAllRuns, ShowsForgery}
 use Rattle.agreement.proofs.Worlds.{Since, at_start, pairs, since, starts}
 use Rattle.agreement.proofs.Accepted.{agrees, differ, fits, known, rests_once, share_none, shows_forgery}
+use Rattle.agreement.proofs.Began.{BegunIn, all_begun}
 use Rattle.agreement.proofs.Deleted.{deleting, stays_deleted}
 use Rattle.agreement.proofs.Registered.{fits_registration}
 use Rattle.agreement.proofs.Retired.{retiring, stays_retired}
@@ -31,7 +33,10 @@ of_all_runs valid public b w run start is =
           (each_weaker (Since valid public b w) (λ m. IsIdeal valid m → Agrees m) (λ m s k. agrees valid public b m s.lived k) run
           (since valid public b w w run sound (at_start valid public b w) is));
       share_none = spans valid public b ShareNone (share_none valid public b) w run sound is;
-      rests_once = pairs valid public b RestsOnce (rests_once valid public b) w run sound is;
+      rests_once = λ i j d lt within.
+          let begun = All-from_recursion (BegunIn valid public b run) run (all_begun valid public b w run start is) in
+          pairs valid public b (λ m l. BegunIn valid public b run m → BegunIn valid public b run l → RestsOnce run m l) (rests_once valid public b run) w run
+          sound is i j d lt within (begun i d (omega (arith, lt, within))) (begun j d within);
       sessions = pairs valid public b DifferInSession (differ valid public b) w run sound is;
       retiring = All-from_recursion Retiring run
           (each_weaker (Since valid public b w) Retiring (λ m s. retiring valid public b m s.lived) run

@@ -12,7 +12,7 @@ use Rattle.authdata.specs.Responses as responses
 use Rattle.ctap_replies.specs.Replies.{Assertion}
 use Rattle.verification.specs.Records as registered_row
 use Rattle.site_state.specs.Table.{retired, row_of, signed_in as counted_row}
-use Rattle.site_state.specs.Sessions.{Expected, for_registration}
+use Rattle.site_state.specs.Sessions.{Expected, expected_of, for_registration}
 use Rattle.authdata.specs.Flags.{is_set, BE}
 use Rattle.site.proofs.Kept.{row_changed}
 use Rattle.site.specs.Saved.{TableOf, version_of}
@@ -25,7 +25,7 @@ use Rattle.authenticator.specs.Steps.{Entry, Keys}
 use Rattle.client.specs.Responses.{response_of}
 use Rattle.agreement.specs.Ends.{AuthenticatorEnd}
 use Rattle.agreement.specs.Honest.{AcceptsBoth, IsHonestRun, Run}
-use Rattle.agreement.specs.World.{Abandons, Asks, AtSite, Begins, Bounds, Deletes, Done, Event, EventEffect, Expires, Holder, IsRun, Moment, Registers, RegistersBy, Reloads}
+use Rattle.agreement.specs.World.{Abandons, Asks, AtSite, Begins, BeginsAs, Bounds, Deletes, Done, Event, EventEffect, Expires, Holder, IsRun, Moment, Registers, RegistersBy, Reloads}
 use Rattle.agreement.specs.World.{Reopens, Restarts, Retires, SignsIn, SignsInBy, SiteActs, SiteEvent, World, after_delete, with_bound}
 use Rattle.agreement.specs.Agreement.{Brings, IsIdeal, WasSigned, message_of}
 use Rattle.agreement.specs.Lived as live
@@ -39,7 +39,7 @@ use Rattle.agreement.proofs.Registering as registering
 use Rattle.agreement.proofs.SigningIn as signing_in
 use Rattle.agreement.proofs.Runs.{agrees, asked, here, idle, registered}
 use Rattle.agreement.proofs.Sites as sites
-use Rattle.agreement.proofs.Sites.{Registered, registered_by, same_assertion, signed_in_by, succeeds_with_room}
+use Rattle.agreement.proofs.Sites.{Registered, new_bytes, registered_by, same_assertion, signed_in_by, succeeds_with_room}
 
 module _ (valid : Validity) (public : Keys) (b : Below valid public) (keeps : KeepsAlg public) (x : Run) (h : IsHonestRun valid public x) (p : Place)
     (t : TakesPlace valid public x h p) where
@@ -248,7 +248,11 @@ module _ (valid : Validity) (public : Keys) (b : Below valid public) (keeps : Ke
     abbrev m6 : Moment
     m6 = done m5.new (AtSite 1 (SignsIn x.signing_in.session response)) (with_site 1 p.signed_in m5.new)
 
-    -- a session that is abandoned, and one that ends by its age
+    -- what a host says of a session: just what the opening asks, so that the site is the same
+    abbrev chosen : Expected
+    chosen = expected_of first.sessions.next p.opening
+
+    -- a session that is abandoned; and one whose challenge a host chose, which ends by its age
     abbrev m7 : Moment
     m7 = done m6.new (AtSite 3 (Begins p.opening)) (with_site 3 x.registering.site m6.new)
 
@@ -256,7 +260,7 @@ module _ (valid : Validity) (public : Keys) (b : Below valid public) (keeps : Ke
     m8 = done m7.new (AtSite 3 (Abandons x.registering.session)) (with_site 3 (after_abandon x.registering.site x.registering.session) m7.new)
 
     abbrev m9 : Moment
-    m9 = done m8.new (AtSite 4 (Begins p.opening)) (with_site 4 x.registering.site m8.new)
+    m9 = done m8.new (AtSite 4 (BeginsAs chosen)) (with_site 4 x.registering.site m8.new)
 
     abbrev m10 : Moment
     m10 = done m9.new (AtSite 4 Expires) (with_site 4 (none_left x.registering.site) m9.new)
@@ -340,7 +344,7 @@ module _ (valid : Validity) (public : Keys) (b : Below valid public) (keeps : Ke
                     changed 3 (Abandons x.registering.session) x.registering.site (after_abandon x.registering.site x.registering.session) m7.new refl refl,
                     (
                       refl,
-                      begins_at 4 m8.new refl,
+                      changed 4 (BeginsAs chosen) first x.registering.site m8.new refl (new_bytes first.sessions.next p.opening (omega (arith, t.numbers.0)) t.words.0, t.begins),
                       (
                         refl,
                         changed 4 Expires x.registering.site (none_left x.registering.site) m9.new refl (record { left = λ n. inl (none_there n); same = refl }),
@@ -407,6 +411,7 @@ module _ (valid : Validity) (public : Keys) (b : Below valid public) (keeps : Ke
     }
 
     happened : (kind : Kind) → Happened (earlier ++ m22 ∷ []) kind
+    happened shown.begins_as = (m9, (8, omega arith, refl), refl, refl, tt)
     happened shown.begins = (m1, (0, omega arith, refl), refl, refl, tt)
     happened shown.abandons = (m8, (7, omega arith, refl), refl, refl, open_there)
     happened shown.retires = (m13, (12, omega arith, refl), refl, refl, registered_there)

@@ -19,7 +19,7 @@ use Rattle.authenticator.proofs.Wider as stepping
 use Rattle.client.specs.Responses.{response_of}
 use Rattle.ceremony.specs.Registration.{response}
 use Rattle.agreement.specs.Hosts.{HostsRuns, IsHostsRun, IsWithin}
-use Rattle.agreement.specs.World.{Abandons, Asks, AtSite, Begins, Bounds, Deletes, Done, Event, EventEnd, Expires, Happens, IsRun, Moment, Nothing, Registers}
+use Rattle.agreement.specs.World.{Abandons, Asks, AtSite, Begins, BeginsAs, Bounds, Deletes, Done, Event, EventEnd, Expires, Happens, IsRun, Moment, Nothing, Registers}
 use Rattle.agreement.specs.World.{RegistersBy, Reloads, Reopens, Restarts, Retires, SignsIn, SignsInBy, SiteActs, SiteEvent, World, with_room}
 
 not_packed : (fmt : List ℕ) → fmt ≡ codes "none" → fmt ≡ codes "packed" → ⊥
@@ -68,6 +68,7 @@ module _ (narrow wide : Validity) (within : IsWithin narrow wide) where
       let came = h.0 in
       ((came.0, came.1, came.2, came.3, came.4, registers (with_room (judged_registration s n (response came.2 d))) came.5), h.1)
   acts s t (Begins o) h = h
+  acts s t (BeginsAs x) h = h
   acts s t (Abandons n) h = h
   acts s t (Retires id) h = h
   acts s t (Deletes id) h = h

@@ -1,9 +1,9 @@
 -- What meets the premises of the laws.
-use Rattle.std.proofs.Common.{◌≡◌, ◌≢◌, ◌∙◌, ℕ, List, [], ◌∷◌, Bool, true, false, Some, refl, ap, subst, sym, inl, inr, arith}
+use Rattle.std.proofs.Common.{◌≡◌, ◌≢◌, ◌∙◌, ℕ, List, [], ◌∷◌, ◌++◌, Bool, true, false, Some, refl, ap, subst, sym, inl, inr, arith}
 use Rattle.std.specs.Prelude.{Contains}
 use Rattle.std.specs.FinMap as finite
 use Rattle.std.specs.List.{All}
-use Rattle.std.proofs.lemmas.List.Elements.{All-weaker, Contains-append_right}
+use Rattle.std.proofs.lemmas.List.Elements.{All-contains, All-weaker, Contains-append_right}
 use Rattle.hidframe.specs.declared.Packet.{Packet}
 use Rattle.cose.specs.Schemes.{Validity}
 use Rattle.authdata.specs.Responses as responses
@@ -12,6 +12,7 @@ use Rattle.authdata.specs.declared.statement.AttestationType.{AttestationType}
 use Rattle.ctap_replies.specs.Replies as replies
 use Rattle.ctap_replies.specs.Replies.{ReplyOf, assertion_reply, creation_reply}
 use Rattle.verification.specs.Records.{Credential}
+use Rattle.site_state.specs.Sessions.{Expected, challenge_in}
 use Rattle.site_state.specs.Table.{row_of}
 use Rattle.authenticator.specs.State.{new_state}
 use Rattle.authenticator.specs.Steps.{Entry, Keys}
@@ -19,10 +20,11 @@ use Rattle.client.specs.Responses.{response_of}
 use Rattle.ceremony.specs.Registration as registering
 use Rattle.ceremony.specs.Verdict.{Delivers}
 use Rattle.agreement.specs.Agreement.{Brings, IsAcceptedRegistration, IsDeleted, IsIdeal, NoneDeleted, Tries, message_of}
+use Rattle.agreement.specs.Begun.{BeginsFor, IsChosen}
 use Rattle.agreement.specs.Premises.{HonestPremises, PagePremises, Premises, RunPremises, SessionPremises}
 use Rattle.agreement.specs.Stays.{IsEnd}
 use Rattle.agreement.specs.World as world
-use Rattle.agreement.specs.World.{AtSite, Deletes, Done, Event, Happens, Holder, IsStart, Moment, Nothing, Registers, RegistersBy, SignsIn, SignsInBy, SiteEvent, World}
+use Rattle.agreement.specs.World.{AtSite, BeginsAs, Deletes, Done, Event, Happens, Holder, IsStart, Moment, Nothing, Registers, RegistersBy, SignsIn, SignsInBy, SiteEvent, World}
 
 abbrev site_of : Event → ℕ
 site_of (AtSite i e) = i
@@ -87,6 +89,15 @@ module _ (valid : Validity) (public : Keys) where
 never_deleted : (i : ℕ) (id : List ℕ) (moments : List Moment) → All (λ m. m.event ≡ AtSite i (Deletes id) → ⊥) moments → NoneDeleted i id moments
 never_deleted i id moments h = All-weaker (λ (m : Moment). m.event ≡ AtSite i (Deletes id) → ⊥) (λ (m : Moment). IsDeleted i id m → ⊥) (λ m never del. never del.0) moments h
 
+-- a session whose challenge the host chose expects what the host says
+choice : (event : SiteEvent) (n : ℕ) (x : Expected) → BeginsFor event n x → IsChosen event → (z : Expected) × (event ≡ BeginsAs z) × (x ≡ z)
+choice (BeginsAs z) n x h is = (z, refl, h)
+choice _ n x h is = absurd is
+
+among : (run before later : List Moment) (m : Moment) → run ≡ before ++ m ∷ later → Contains run m
+among run before later m here =
+    subst (λ (ms : List Moment). Contains ms m) (sym here) (Contains-append_right before (m ∷ later) m (0, omega arith, refl))
+
 run_premises : (valid : Validity) (public : Keys) → RunPremises valid public
 run_premises valid public = record {
   starts = new_start;
@@ -105,7 +116,15 @@ run_premises valid public = record {
   made = λ w k key there. (k, there);
   ideal = unforged valid public;
   rests = λ m k r row e there purpose key message. record { there = (k, there); purpose = purpose; key = key; message = message };
-  rests_once = λ m l once i j n k r t row low first second party texts e on_first on_second. once i j n k r t row low first second party texts e on_first on_second;
+  rests_once = λ run m l once i j n k r t row low first second party texts own e on_first on_second.
+      once i j n k r t row low first second party texts own e on_first on_second;
+  numbered = λ run i none n k x y b c chosen same.
+      let z = choice b.begins n x b.expects chosen in
+      absurd (All-contains (λ m. (x : Expected) → m.event ≡ AtSite i (BeginsAs x) → ⊥) run b.moment none (among run b.before b.later b.moment b.here) z.0
+      (b.event ∙ ap (AtSite i) z.1));
+  chosen = λ run i own n k x y b c chosen same.
+      let z = choice b.begins n x b.expects chosen in
+      own n k z.0 y b.moment (among run b.before b.later b.moment b.here) (b.event ∙ ap (AtSite i) z.1) b.done b.number c (ap challenge_in (sym z.2) ∙ same);
   undeleted = never_deleted;
   retired = λ s id row found retired. record { row = row; found = found; retired = retired };
 }
@@ -174,6 +193,7 @@ module _ (i n : ℕ) (m : Moment) (is : IsEnd i n m) where
 session_premises : SessionPremises
 session_premises = record {
   begins = λ o n h. h;
+  begins_as = λ x n h. h;
   retires = λ id n h. h;
   deletes = λ id n h. h;
   bounds = λ k n h. h;

@@ -1,5 +1,5 @@
 -- What an event at a site keeps, and which session it takes.
-use Rattle.std.proofs.Common.{◌≡◌, ◌≢◌, ◌<◌, ◌-◌, ◌^◌, ◌++◌, ◌∷◌, [], inl, inr, ℕ, zero, suc, List, Option, Some, None, refl, sym, ◌∙◌, ap, subst, arith}
+use Rattle.std.proofs.Common.{◌≡◌, ◌≢◌, ◌<◌, ◌-◌, ◌^◌, ◌⊎◌, ◌++◌, ◌∷◌, [], inl, inr, ℕ, zero, suc, List, Option, Some, None, refl, sym, ◌∙◌, ap, subst, arith}
 use Rattle.std.specs.Int.{w64, to_be_bytes}
 use Rattle.std.specs.Prelude.{IsSome}
 use Rattle.std.specs.FinMap.{gets}
@@ -24,7 +24,7 @@ use Rattle.site_state.specs.Sessions.{Expected, Opening, OpensRegistration, Open
 use Rattle.site.specs.Saved.{version_of}
 use Rattle.site.specs.State.{IsAfterRegistration, IsAfterSignIn, SiteState, judged_sign_in, judged_registration, none_open, registered}
 use Rattle.verification.specs.Records.{Credential}
-use Rattle.site.specs.Laws.{IsFresh, IsGone, IsKept, IsNumbered, Keeps, Takes, after_begin, after_restart, GoesOn}
+use Rattle.site.specs.Laws.{IsFresh, IsGone, IsKept, Keeps, Takes, after_begin, after_restart, GoesOn}
 use Rattle.site.proofs.Goings.{begun_or, still}
 use Rattle.site.proofs.Judged.{no_row}
 use Rattle.site.proofs.Kept.{kept_here, row_before}
@@ -34,8 +34,8 @@ use Rattle.ceremony.specs.Verdict.{CarriesReply, Delivers, Succeeds}
 use Rattle.ceremony.proofs.OneVerdict.{registration_one, sign_in_one}
 use Rattle.authenticator.specs.Steps.{Keys}
 use Rattle.authenticator.proofs.Stored.{each_weaker}
-use Rattle.agreement.specs.World.{Abandons, SiteActs, Begins, Bounds, Deletes, EndsSessions, Expires, IsReopened, Loads, Registers, RegistersBy, Reopens}
-use Rattle.agreement.specs.World.{Restarts, Retires, SignsIn, SignsInBy, SiteEvent, after_delete, with_bound, with_room, words_of}
+use Rattle.agreement.specs.World.{Abandons, SiteActs, Begins, BeginsAs, Bounds, Deletes, EndsSessions, Expires, IsReopened, Loads, Registers, RegistersBy, Reopens}
+use Rattle.agreement.specs.World.{Restarts, Retires, SignsIn, SignsInBy, SiteEvent, after_begin_as, after_delete, with_bound, with_room, words_of}
 use Rattle.agreement.specs.Agreement.{BringsNewTo, BringsTo, Carried, CarriedNew, IsRegistration, session_in}
 use Rattle.agreement.specs.Below.{Below}
 use Rattle.agreement.proofs.Rows.{none_last, none_with, none_without, others_left}
@@ -56,7 +56,7 @@ bytes_of_64 n h (suc (suc (suc (suc (suc (suc (suc (suc k)))))))) = omega arith
 abbrev pub AreBytes : SiteState → Type 0
 AreBytes s = (n : ℕ) (e : Expected) → finite.get s.sessions.expected n ≡ Some e → IsBytes (challenge_in e)
 
-new_bytes : (n : ℕ) (o : Opening) → n < 2 ^ 64 → IsBytes (words_of o) → IsBytes (challenge_in (expected_of n o))
+pub new_bytes : (n : ℕ) (o : Opening) → n < 2 ^ 64 → IsBytes (words_of o) → IsBytes (challenge_in (expected_of n o))
 new_bytes n (OpensSignIn user allow uv words) lt is = bytes-append (to_be_bytes w64 n) words (bytes_of_64 n lt) is
 new_bytes n (OpensRegistration user algorithms uv words asks) lt is = bytes-append (to_be_bytes w64 n) words (bytes_of_64 n lt) is
 
@@ -65,6 +65,25 @@ bytes_begun s o lt is old n e h = elim (begun_or s o n e h) [
   | inl new ↦ subst (λ (x : Expected). IsBytes (challenge_in x)) (sym new.1) (new_bytes s.sessions.next o (omega arith) is)
   | inr there ↦ old n e there
 ]
+
+-- ---- a session that begins with whatever challenge
+
+-- it is the new one, or was open
+pub begun_as_or : (s : SiteState) (x : Expected) (n : ℕ) (e : Expected) → finite.get (after_begin_as s x).sessions.expected n ≡ Some e
+    → ((n ≡ s.sessions.next) × (e ≡ x)) ⊎ (finite.get s.sessions.expected n ≡ Some e)
+begun_as_or s x n e h = grind (arith, gets, common_steps, h)
+
+bytes_begun_as : (s : SiteState) (x : Expected) → IsBytes (challenge_in x) → AreBytes s → AreBytes (after_begin_as s x)
+bytes_begun_as s x is old n e h = elim (begun_as_or s x n e h) [
+  | inl new ↦ subst (λ (z : Expected). IsBytes (challenge_in z)) (sym new.1) is
+  | inr there ↦ old n e there
+]
+
+pub fresh_begun_as : (s : SiteState) (x : Expected) → IsFresh s → IsFresh (after_begin_as s x)
+fresh_begun_as s x fresh n is = grind (arith, gets, common_steps, fresh n, is)
+
+gone_begun_as : (s : SiteState) (x : Expected) (n : ℕ) → IsGone s n → IsGone (after_begin_as s x) n
+gone_begun_as s x n (lt, none) = (omega arith, grind (arith, gets, common_steps, none, lt))
 
 -- no session is open
 pub empty_bytes : (s : SiteState) → s.sessions.expected ≡ finite.empty → AreBytes s
@@ -167,6 +186,7 @@ module _ (valid : Validity) (public : Keys) (b : Below valid public) where
       (subst (λ (z : responses.AuthenticatorAttestationResponse). Registered s k z t) brings.1 (record { passes = acts.0; after = acts.1 }))
   registered_in s t (RegistersBy k c ps d) n r acts brings = subst (λ (j : ℕ). Registered s j r t) brings.0 (registered_with s t k c ps d r acts brings.1)
   registered_in s t (Begins o) n r acts brings = absurd brings
+  registered_in s t (BeginsAs x) n r acts brings = absurd brings
   registered_in s t (Abandons k) n r acts brings = absurd brings
   registered_in s t (Retires id) n r acts brings = absurd brings
   registered_in s t (Deletes id) n r acts brings = absurd brings
@@ -193,6 +213,7 @@ module _ (valid : Validity) (public : Keys) (b : Below valid public) where
       (subst (λ (z : responses.AuthenticatorAssertionResponse). SignedIn s k z t) brings.1 (record { passes = acts.0; after = acts.1 }))
   signs_in s t (SignsInBy k c ps d) n r acts brings = subst (λ (j : ℕ). SignedIn s j r t) brings.0 (signed_in_by s t k c ps d r acts brings.1)
   signs_in s t (Begins o) n r acts brings = absurd brings
+  signs_in s t (BeginsAs x) n r acts brings = absurd brings
   signs_in s t (Abandons k) n r acts brings = absurd brings
   signs_in s t (Retires id) n r acts brings = absurd brings
   signs_in s t (Deletes id) n r acts brings = absurd brings
@@ -226,9 +247,8 @@ module _ (valid : Validity) (public : Keys) (b : Below valid public) where
     pub keeps : Keeps s t
     pub bytes : AreBytes s → AreBytes t
 
-  -- sessions have their numbers, and none comes again; and each credential is kept, but that of an id that is deleted
+  -- no session comes again; and each credential is kept, but that of an id that is deleted
   pub record Stays (s t : SiteState) (e : SiteEvent) : Type 0 where
-    pub numbered : IsNumbered s → IsNumbered t
     pub fresh : IsFresh t
     pub gone : (n : ℕ) → IsGone s n → IsGone t n
     pub rows : (id : List ℕ) (row : Credential) → e ≢ Deletes id → row_of id s.rows ≡ Some row → IsKept row t.rows
@@ -236,7 +256,6 @@ module _ (valid : Validity) (public : Keys) (b : Below valid public) where
 
   whole : (s t : SiteState) (e : SiteEvent) → Whole s t → Stays s t e
   whole s t e x = record {
-    numbered = x.keeps.numbered;
     fresh = x.keeps.fresh;
     gone = x.keeps.goes_on.gone;
     rows = λ id row apart found. x.keeps.goes_on.rows id row found;
@@ -247,7 +266,7 @@ module _ (valid : Validity) (public : Keys) (b : Below valid public) where
   stays_opened : (s t u : SiteState) (e : SiteEvent) → Stays s u e → t ≡ opened_as t u → Stays s t e
   stays_opened s t u e x is =
       subst (λ (z : SiteState). Stays s z e) (sym is)
-      (record { numbered = x.numbered; fresh = x.fresh; gone = x.gone; rows = x.rows; bytes = x.bytes })
+      (record { fresh = x.fresh; gone = x.gone; rows = x.rows; bytes = x.bytes })
 
   stays_signed_in : (s t : SiteState) (n : ℕ) (r : responses.AuthenticatorAssertionResponse) → IsFresh s → SignedIn s n r t → Whole s t
   stays_signed_in s t n r fresh x = record {
@@ -319,7 +338,6 @@ module _ (valid : Validity) (public : Keys) (b : Below valid public) where
   deleted : (s t : SiteState) (id : List ℕ) → IsFresh s → t ≡ after_delete s id → Stays s t (Deletes id)
   deleted s t id fresh is =
       subst (λ (z : SiteState). Stays s z (Deletes id)) (sym is) (record {
-        numbered = λ h. h;
         fresh = fresh;
         gone = λ n h. h;
         rows = λ k row apart found.
@@ -332,6 +350,13 @@ module _ (valid : Validity) (public : Keys) (b : Below valid public) where
   pub stays : (s t : SiteState) (e : SiteEvent) → IsFresh s → SiteActs valid s e t → Stays s t e
   stays s t (Begins o) fresh acts =
       whole s t (Begins o) (subst (Whole s) (sym acts.2) (record { keeps = b.sites.begins s o acts.1 fresh; bytes = bytes_begun s o acts.1 acts.0 }))
+  stays s t (BeginsAs x) fresh acts =
+      subst (λ (z : SiteState). Stays s z (BeginsAs x)) (sym acts.1) (record {
+        fresh = fresh_begun_as s x fresh;
+        gone = gone_begun_as s x;
+        rows = λ id row apart found. (b.sites.stays s).rows id row found;
+        bytes = bytes_begun_as s x acts.0;
+      })
   stays s t (Abandons n) fresh acts =
       whole s t (Abandons n)
       (subst (Whole s) (sym acts) (record { keeps = b.sites.abandons s n fresh; bytes = λ old k e h. old k e (still s n k e h) }))
@@ -376,6 +401,7 @@ module _ (valid : Validity) (public : Keys) (b : Below valid public) where
       let x = registered_by s t k c ps d acts in
       subst (Takes s t) (same_Some k n is) (takes_registered s t k x.0 fresh x.1)
   takes s t (Begins o) n fresh acts is = let bad : None ≡ Some n = is in absurd cc
+  takes s t (BeginsAs x) n fresh acts is = let bad : None ≡ Some n = is in absurd cc
   takes s t (Abandons k) n fresh acts is = let bad : None ≡ Some n = is in absurd cc
   takes s t (Deletes id) n fresh acts is = let bad : None ≡ Some n = is in absurd cc
   takes s t (Retires id) n fresh acts is = let bad : None ≡ Some n = is in absurd cc
@@ -390,6 +416,7 @@ module _ (valid : Validity) (public : Keys) (b : Below valid public) where
   registers s t (Registers n r) acts is = (n, r, record { passes = acts.0; after = acts.1 })
   registers s t (RegistersBy n c ps d) acts is = let x = registered_by s t n c ps d acts in (n, x.0, x.1)
   registers s t (Begins o) acts is = absurd is
+  registers s t (BeginsAs x) acts is = absurd is
   registers s t (Abandons n) acts is = absurd is
   registers s t (Retires id) acts is = absurd is
   registers s t (Deletes id) acts is = absurd is
@@ -424,6 +451,7 @@ module _ (valid : Validity) (public : Keys) (b : Below valid public) where
   pub absent : (s t : SiteState) (e : SiteEvent) → SiteActs valid s e t → (id : List ℕ) → row_of id s.rows ≡ None
       → ((c : Credential) → IsRegistration e → t.rows ≡ s.rows ++ c ∷ [] → c.id ≢ id) → row_of id t.rows ≡ None
   absent s t (Begins o) acts id none apart = ap (λ (z : SiteState). row_of id z.rows) acts.2 ∙ none
+  absent s t (BeginsAs x) acts id none apart = ap (λ (z : SiteState). row_of id z.rows) acts.1 ∙ none
   absent s t (Abandons n) acts id none apart = ap (λ (z : SiteState). row_of id z.rows) acts ∙ none
   absent s t (Retires k) acts id none apart = ap (λ (z : SiteState). row_of id z.rows) acts ∙ none_with id k retired s.rows (λ row. refl) none
   absent s t (Deletes k) acts id none apart = ap (λ (z : SiteState). row_of id z.rows) acts ∙ none_without id k s.rows none

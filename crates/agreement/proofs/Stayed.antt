@@ -2,7 +2,7 @@
 use Rattle.std.proofs.Common.{◌≡◌, ◌≢◌, inl, inr, ℕ, List, [], ◌∷◌, ◌++◌, Bool, true, Option, Some, None, refl, sym, ◌∙◌, ap, subst, arith}
 use Rattle.std.specs.FinMap.{gets}
 use Rattle.std.specs.FinMap as finite
-use Rattle.std.specs.Prelude.{not}
+use Rattle.std.specs.Prelude.{IsSome, not}
 use Rattle.std.specs.List.{AllByRecursion as Each}
 use Rattle.std.proofs.lemmas.Bool.Decides.{eqb_tells}
 use Rattle.std.proofs.lemmas.Grind.{common_steps}
@@ -25,7 +25,7 @@ use Rattle.authenticator.specs.declared.consent.Words.{Words}
 use Rattle.agreement.specs.Below.{Below}
 use Rattle.agreement.specs.Ledger.{world_after}
 use Rattle.agreement.specs.Stays.{IsEnd, IsOpen, MayEnd, Resets, Stays, StaysOfAllRuns}
-use Rattle.agreement.specs.World.{Abandons, Asks, AtSite, Begins, Bounds, Deletes, Done, Event, EventEffect, EventEnd, Expires, Happens, Holder, IsRun, Moment, Nothing}
+use Rattle.agreement.specs.World.{Abandons, Asks, AtSite, Begins, BeginsAs, Bounds, Deletes, Done, Event, EventEffect, EventEnd, Expires, Happens, Holder, IsRun, Moment, Nothing}
 use Rattle.agreement.specs.World.{Registers, RegistersBy, Reloads, Reopens, Restarts, Retires, SignsIn, SignsInBy, SiteActs, SiteEvent, World}
 use Rattle.agreement.proofs.Sites.{Registered, SignedIn, carried_there, registered_by, signed_in_by}
 use Rattle.agreement.proofs.Worlds.{Sound, lived, starts}
@@ -49,6 +49,9 @@ module _ (valid : Validity) (public : Keys) (b : Below valid public) where
 
     stays_at : (e : SiteEvent) → IsFresh s → SiteActs valid s e t → (MayEnd e n → ⊥) → OpenIn t
     stays_at (Begins o) fresh acts none = subst OpenIn (sym acts.2) (b.sites.stays_open s o n x fresh h)
+    stays_at (BeginsAs y) fresh acts none =
+        let lt = fresh n (subst (λ (o : Option Expected). IsSome o) (sym h) refl) in
+        subst OpenIn (sym acts.1) (grind (arith, gets, common_steps, lt, h))
     stays_at (Abandons k) fresh acts none = subst OpenIn (sym acts) (other_left s k n x none h)
     stays_at (Retires id) fresh acts none = subst OpenIn (sym acts) h
     stays_at (Deletes id) fresh acts none = subst OpenIn (sym acts) h
@@ -66,6 +69,7 @@ module _ (valid : Validity) (public : Keys) (b : Below valid public) where
   -- the rp id is as it was
   same_party : (s t : SiteState) (e : SiteEvent) → SiteActs valid s e t → t.rp.rp_id ≡ s.rp.rp_id
   same_party s t (Begins o) acts = ap (λ (z : SiteState). z.rp.rp_id) acts.2
+  same_party s t (BeginsAs y) acts = ap (λ (z : SiteState). z.rp.rp_id) acts.1
   same_party s t (Abandons k) acts = ap (λ (z : SiteState). z.rp.rp_id) acts
   same_party s t (Retires id) acts = ap (λ (z : SiteState). z.rp.rp_id) acts
   same_party s t (Deletes id) acts = ap (λ (z : SiteState). z.rp.rp_id) acts

@@ -6,7 +6,7 @@ use Rattle.std.proofs.lemmas.Bool.Decides.{eqb_tells}
 use Rattle.std.proofs.lemmas.List.Elements.{All-append, All-from_recursion, All-nil, All-same}
 use Rattle.cose.specs.Schemes.{Validity}
 use Rattle.site.specs.State as site
-use Rattle.site.specs.Laws.{IsFresh, IsGone, IsNumbered}
+use Rattle.site.specs.Laws.{IsFresh, IsGone}
 use Rattle.authenticator.specs.Laws.{IsSound, SoundState}
 use Rattle.authenticator.specs.Steps.{Keys}
 use Rattle.authenticator.proofs.Stored.{each_weaker}
@@ -15,10 +15,9 @@ use Rattle.agreement.specs.World.{Nothing, Reloads, SiteEvent, World, after_call
 use Rattle.agreement.specs.Below.{Below}
 use Rattle.agreement.proofs.Sites.{AreBytes, empty_bytes, stays}
 
--- each site's sessions have their numbers, and each authenticator has signed soundly
+-- each site's sessions have numbers that were given, and each authenticator has signed soundly
 pub record SoundSite (s : site.SiteState) : Type 0 where
   pub fresh : IsFresh s
-  pub numbered : IsNumbered s
   pub bytes : AreBytes s
 
 pub record SoundHolder (h : Holder) : Type 0 where
@@ -61,7 +60,7 @@ module _ (valid : Validity) (public : Keys) (b : Below valid public) where
       → Kept old new
   at_site old new i e s sound acts change =
       let x = stays valid public b (old.site i) s e (sound.sites i).fresh acts in
-      let here : SoundSite s = record { fresh = x.fresh; numbered = x.numbered (sound.sites i).numbered; bytes = x.bytes (sound.sites i).bytes } in
+      let here : SoundSite s = record { fresh = x.fresh; bytes = x.bytes (sound.sites i).bytes } in
       record {
         sound = record {
           sites = at_sites (λ a z. SoundSite z) old new i s change here sound.sites;
@@ -164,7 +163,6 @@ module _ (valid : Validity) (public : Keys) (b : Below valid public) where
   starts w start = record {
     sites = λ i. record {
       fresh = (b.sites.starts (w.site i) (start.sites i)).0;
-      numbered = (b.sites.starts (w.site i) (start.sites i)).1;
       bytes = empty_bytes (w.site i) (start.sites i);
     };
     holders = λ k.

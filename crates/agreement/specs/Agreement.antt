@@ -29,6 +29,7 @@ use Rattle.authenticator.specs.Steps.{Entry, Keys, assertion}
 use Rattle.client.specs.Responses.{response_of}
 use Rattle.ceremony.specs.Registration as registering
 use Rattle.ceremony.specs.Verdict.{Delivers}
+use Rattle.agreement.specs.Begun.{HasOwnChallenges}
 use Rattle.agreement.specs.World.{AtSite, Asks, Deletes, Done, Event, IsRun, IsStart, Moment, Registers, RegistersBy, Reloads, Retires, SignsIn, SignsInBy}
 use Rattle.agreement.specs.World.{SiteEvent, World}
 
@@ -232,12 +233,13 @@ ShareNone m between l =
     (i n k : ℕ) (r t : AuthenticatorAssertionResponse) (row low : Credential) → IsAccepted m i n r row → IsAccepted l i k t low → r.credential ≡ t.credential
     → NoneDeleted i r.credential between → (e : Entry) → RestsOn m r row e → RestsOn l t low e → ⊥
 
--- nor do any two at all sites, where no two sites have rp ids of one hash and no two client data are of one
-abbrev pub RestsOnce : Moment → Moment → Type 0
-RestsOnce m l =
+-- nor do any two at all sites, where no two sites have rp ids of one hash and no two client data are of one, and, of one site, where a host that
+-- chose a challenge gave it to no other session
+abbrev pub RestsOnce : List Moment → Moment → Moment → Type 0
+RestsOnce run m l =
     (i j n k : ℕ) (r t : AuthenticatorAssertionResponse) (row low : Credential) → IsAccepted m i n r row → IsAccepted l j k t low
     → (sha256 (m.old.site i).rp.rp_id ≡ sha256 (l.old.site j).rp.rp_id → i ≡ j) → (sha256 r.client_data ≡ sha256 t.client_data → r.client_data ≡ t.client_data)
-    → (e : Entry) → RestsOn m r row e → RestsOn l t low e → ⊥
+    → (i ≡ j → HasOwnChallenges run i) → (e : Entry) → RestsOn m r row e → RestsOn l t low e → ⊥
 
 -- the session that an event answers
 abbrev pub session_in : SiteEvent → Option ℕ
@@ -316,7 +318,7 @@ pub record Agreement (valid : Validity) (run : List Moment) : Type 0 where
   pub fits : All Fits run
   pub agrees : All (λ m. IsIdeal valid m → Agrees m) run
   pub share_none : AllSpans ShareNone run
-  pub rests_once : AllPairs RestsOnce run
+  pub rests_once : AllPairs (RestsOnce run) run
   pub sessions : AllPairs DifferInSession run
   pub retiring : All Retiring run
   pub retired : AllSpans StaysRetired run

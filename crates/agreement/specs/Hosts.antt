@@ -12,7 +12,7 @@ use Rattle.agreement.specs.World.{Happens, IsRun, Moment, World}
 abbrev pub IsWithin : Validity → Validity → Type 0
 IsWithin narrow wide = (key : CoseKey) (message signature : List ℕ) → narrow key message signature → wide key message signature
 
--- a run of which each moment is by one of these relations, which is within the wide one
+-- a run whose moments are each by one of these relations, which is within the wide one
 abbrev pub IsHostsRun : {I : Type 0} → (I → Validity) → Validity → Keys → World → List Moment → Type 0
 IsHostsRun narrow wide public w [] = Unit {0}
 IsHostsRun {I} narrow wide public w (m ∷ ms) =

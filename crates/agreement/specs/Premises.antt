@@ -21,7 +21,7 @@ use Rattle.ctap_replies.specs.Replies.{ReplyOf, assertion_reply, creation_reply}
 use Rattle.verification.specs.Records as expects
 use Rattle.verification.specs.Records.{Credential}
 use Rattle.verification.specs.RegistrationAnswers.{AcceptsAttestation}
-use Rattle.site_state.specs.Sessions.{Opening, registration_at, sign_in_at}
+use Rattle.site_state.specs.Sessions.{Expected, Opening, challenge_in, registration_at, sign_in_at}
 use Rattle.site_state.specs.Table.{row_of}
 use Rattle.site.specs.Laws.{after_begin}
 use Rattle.site.specs.State.{SiteState}
@@ -37,13 +37,14 @@ use Rattle.security_key.specs.declared.serving.Act.TheVariants as act
 use Rattle.ceremony.specs.Registration as registering
 use Rattle.ceremony.specs.Verdict.{Delivers}
 use Rattle.agreement.specs.Agreement.{AnswersSession, IsAccepted, IsAcceptedRegistration, IsIdeal, IsRetired, NoneDeleted, RestsOn, RestsOnce, Tries, WasMade, message_of}
+use Rattle.agreement.specs.Begun.{HasOwnChallenges, IsBegun}
 use Rattle.agreement.specs.Ends.{AuthenticatorEnd, Exchange, IsIdleOn}
 use Rattle.agreement.specs.Honest as honest
 use Rattle.agreement.specs.Honest.{AsksForNew, Decided, IsAskedFor, IsHonestRegistration, IsHonestRun, IsHonestSignIn, IsShared, Registering, SigningIn, counts_as}
 use Rattle.agreement.specs.Pages.{AskedOver, IsFromPage}
 use Rattle.agreement.specs.Stays.{IsEnd, MayEnd}
 use Rattle.agreement.specs.World as world
-use Rattle.agreement.specs.World.{Abandons, AtSite, Begins, Bounds, Deletes, Done, Event, Happens, IsRun, IsStart, Moment, Nothing, Registers, RegistersBy, Reloads, Reopens}
+use Rattle.agreement.specs.World.{Abandons, AtSite, Begins, BeginsAs, Bounds, Deletes, Done, Event, Happens, IsRun, IsStart, Moment, Nothing, Registers, RegistersBy, Reloads, Reopens}
 use Rattle.agreement.specs.World.{Retires, SignsIn, SignsInBy, SiteEvent, World}
 
 -- ---- of all runs
@@ -89,11 +90,18 @@ pub record RunPremises (valid : Validity) (public : Keys) : Type 0 where
   -- a sign-in rests on each assertion that an authenticator has signed under its credential's key for its message
   pub rests : (m : Moment) (k : ℕ) (r : AuthenticatorAssertionResponse) (row : Credential) (e : Entry) → Contains (m.old.holder k).signed e → e.purpose ≡ assertion
       → e.key ≡ row.key → e.message ≡ message_of r → RestsOn m r row e
-  -- two sign-ins rest on no common entry, where one hash of rp ids is one site and one hash of client data is one text: no more is asked
-  pub rests_once : (m l : Moment) → RestsOnce m l → (i j n k : ℕ) (r t : AuthenticatorAssertionResponse) (row low : Credential)
+  -- two sign-ins rest on no common entry, where one hash of rp ids is one site and one hash of client data is one text, and, at one site, no other
+  -- session has a challenge that a host chose: no more is asked
+  pub rests_once : (run : List Moment) (m l : Moment) → RestsOnce run m l → (i j n k : ℕ) (r t : AuthenticatorAssertionResponse) (row low : Credential)
       → IsAccepted m i n r row → IsAccepted l j k t low
       → (sha256 (m.old.site i).rp.rp_id ≡ sha256 (l.old.site j).rp.rp_id → i ≡ j) → (sha256 r.client_data ≡ sha256 t.client_data → r.client_data ≡ t.client_data)
-      → (e : Entry) → RestsOn m r row e → RestsOn l t low e → ⊥
+      → (i ≡ j → HasOwnChallenges run i) → (e : Entry) → RestsOn m r row e → RestsOn l t low e → ⊥
+  -- no challenge that a host chose is another session's where none was chosen
+  pub numbered : (run : List Moment) (i : ℕ) → All (λ m. (x : Expected) → m.event ≡ AtSite i (BeginsAs x) → ⊥) run → HasOwnChallenges run i
+  -- or where each that was chosen was that of no session with another number
+  pub chosen : (run : List Moment) (i : ℕ) → ((n k : ℕ) (x y : Expected) (m : Moment) → Contains run m → m.event ≡ AtSite i (BeginsAs x)
+      → m.end ≡ Done → n ≡ (m.old.site i).sessions.next → IsBegun i k run y → challenge_in x ≡ challenge_in y → n ≡ k)
+      → HasOwnChallenges run i
   -- a credential is not deleted where no moment deletes it, and is retired where its row says so
   pub undeleted : (i : ℕ) (id : List ℕ) (moments : List Moment) → All (λ m. m.event ≡ AtSite i (Deletes id) → ⊥) moments → NoneDeleted i id moments
   pub retired : (s : SiteState) (id : List ℕ) (row : Credential) → row_of id s.rows ≡ Some row → row.retired ≡ true → IsRetired s id
@@ -103,6 +111,7 @@ pub record RunPremises (valid : Validity) (public : Keys) : Type 0 where
 pub record SessionPremises : Type 0 where
   -- no session ends by a begin, a retirement, a deletion, a bound or an opening
   pub begins : (o : Opening) (n : ℕ) → MayEnd (Begins o) n → ⊥
+  pub begins_as : (x : Expected) (n : ℕ) → MayEnd (BeginsAs x) n → ⊥
   pub retires : (id : List ℕ) (n : ℕ) → MayEnd (Retires id) n → ⊥
   pub deletes : (id : List ℕ) (n : ℕ) → MayEnd (Deletes id) n → ⊥
   pub bounds : (max_open n : ℕ) → MayEnd (Bounds max_open) n → ⊥

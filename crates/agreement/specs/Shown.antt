@@ -11,7 +11,7 @@ use Rattle.authenticator.specs.Steps.{Keys}
 use Rattle.agreement.specs.Agreement.{IsAccepted, IsIdeal}
 use Rattle.agreement.specs.Honest.{IsHonestRun, Run}
 use Rattle.agreement.specs.Lived.{Place, TakesPlace}
-use Rattle.agreement.specs.World.{Abandons, Asks, AtSite, Begins, Bounds, Deletes, Done, Event, Expires, IsRun, IsStart, Moment, Registers, RegistersBy, Reloads}
+use Rattle.agreement.specs.World.{Abandons, Asks, AtSite, Begins, BeginsAs, Bounds, Deletes, Done, Event, Expires, IsRun, IsStart, Moment, Registers, RegistersBy, Reloads}
 use Rattle.agreement.specs.World.{Reopens, Restarts, Retires, SignsIn, SignsInBy, SiteEvent, World}
 
 -- an honest registration and sign-in, at a site that begins without sessions and a new authenticator of some world
@@ -24,6 +24,7 @@ pub record HonestRunTakesPlace (valid : Validity) (public : Keys) : Type 0 where
 -- the kinds of events
 pub data Kind : Type 0 where
   begins : Kind
+  begins_as : Kind
   abandons : Kind
   retires : Kind
   deletes : Kind
@@ -40,6 +41,7 @@ pub data Kind : Type 0 where
 
 abbrev pub kind_at_site : SiteEvent → Kind
 kind_at_site (Begins o) = begins
+kind_at_site (BeginsAs x) = begins_as
 kind_at_site (Abandons n) = abandons
 kind_at_site (Retires id) = retires
 kind_at_site (Deletes id) = deletes

@@ -1,7 +1,7 @@
 -- Sites and authenticators, any number of each, and all that may happen to them: the packets, the client data and the
 -- requests are whatever an adversary makes of them. A site or an authenticator that begins again loads what it has saved;
 -- a site that is stored by each call finds itself as it was.
-use Rattle.std.specs.Prelude.{◌≡◌, ◌≢◌, ◌<◌, ◌-◌, ◌^◌, ◌⊎◌, ℕ, Bool, false, not, List, [], ◌∷◌, ◌++◌, filter, length, None}
+use Rattle.std.specs.Prelude.{◌≡◌, ◌≢◌, ◌<◌, ◌+◌, ◌-◌, ◌^◌, ◌⊎◌, ℕ, Bool, false, not, List, [], ◌∷◌, ◌++◌, filter, length, None}
 use Rattle.std.specs.FinMap as finite
 use Rattle.std.specs.Str.{bytes_eq}
 use Rattle.base64.specs.GeneralPurpose.{IsBytes}
@@ -15,7 +15,7 @@ use Rattle.verification.specs.SignIn as authentication
 use Rattle.verification.specs.Registration as registration
 use Rattle.verification.specs.Registration.{JudgedRegistration}
 use Rattle.site.specs.Saved.{TableOf, version_of}
-use Rattle.site_state.specs.Sessions.{Opening, OpensRegistration, OpensSignIn}
+use Rattle.site_state.specs.Sessions.{Expected, Opening, OpensRegistration, OpensSignIn, challenge_in}
 use Rattle.site.specs.State as site
 use Rattle.site.specs.State.{IsAfterRegistration, IsAfterSignIn, judged_sign_in, judged_registration, none_open, saved_of}
 use Rattle.site.specs.Laws.{after_abandon, after_begin, after_retire}
@@ -43,12 +43,13 @@ pub record World : Type 0 where
 
 -- ---- events
 
--- at a site: what its calls do; that sessions which began too long ago are ended, however many; that another bound is
--- set on its open sessions; that it begins again with the table that it saved; and that it is opened again where each call
--- stores it, which may be with other pages, another profile or another policy. A call that a crash cuts off has its effect or
--- none, and then the site is opened again
+-- at a site: what its calls do; that a session begins with a challenge that its host chose, who keeps the site's rows; that sessions
+-- which began too long ago are ended, however many; that another bound is set on its open sessions; that it begins again with the table
+-- that it saved; and that it is opened again where each call stores it, which may be with other pages, another profile or another
+-- policy. A call that a crash cuts off has its effect or none, and then the site is opened again
 pub data SiteEvent : Type 0 where
   Begins : (opening : Opening) → SiteEvent
+  BeginsAs : (expects : Expected) → SiteEvent
   Abandons : (session : ℕ) → SiteEvent
   Retires : (id : List ℕ) → SiteEvent
   Deletes : (id : List ℕ) → SiteEvent
@@ -87,6 +88,11 @@ pub record EndsSessions (s t : site.SiteState) : Type 0 where
   pub left : (n : ℕ) → (finite.get t.sessions.expected n ≡ None) ⊎ (finite.get t.sessions.expected n ≡ finite.get s.sessions.expected n)
   pub same : t ≡ record s { sessions = record s.sessions { expected = t.sessions.expected } }
 
+-- the next number is that of a session that expects this, whatever its challenge is
+abbrev pub after_begin_as : site.SiteState → Expected → site.SiteState
+after_begin_as s e =
+    record s { sessions = record s.sessions { expected = finite.insert s.sessions.expected s.sessions.next e; next = s.sessions.next + 1 } }
+
 -- with this bound on its open sessions
 abbrev pub with_bound : ℕ → site.SiteState → site.SiteState
 with_bound max_open s = record s { sessions = record s.sessions { max_open = max_open } }
@@ -108,6 +114,7 @@ with_room x = record x { is_full = false }
 -- the effect of an event at a site, as the contracts of its calls have it
 abbrev pub SiteActs : Validity → site.SiteState → SiteEvent → site.SiteState → Type 0
 SiteActs valid s (Begins o) t = IsBytes (words_of o) × (s.sessions.next < 2 ^ 64 - 1) × (t ≡ after_begin s o)
+SiteActs valid s (BeginsAs e) t = IsBytes (challenge_in e) × (t ≡ after_begin_as s e)
 SiteActs valid s (Abandons n) t = t ≡ after_abandon s n
 SiteActs valid s (Retires id) t = t ≡ after_retire s id
 SiteActs valid s (Deletes id) t = t ≡ after_delete s id
@@ -152,7 +159,7 @@ EventEffect valid public old (Reloads k) new =
 
 -- ---- runs
 
--- an event has its effect, or none: it is refused, or memory is wanting
+-- an event has its effect, or none: it is refused, or memory runs out
 pub data EventEnd : Type 0 where
   Done : EventEnd
   Nothing : EventEnd

@@ -1,18 +1,19 @@
 -- Runs of a key, act after act.
 use Rattle.std.proofs.Common.{◌≡◌, ℕ, List, [], ◌∷◌, ◌++◌, true, false, Option, Some, None, refl, sym, ap, subst, ◌∙◌, inl, inr, append_assoc, append-nil}
 use Rattle.std.specs.List.{AllByRecursion}
+use Rattle.hidlink.specs.Ranks.{Idle, Receiving, TransactionState, Working}
 use Rattle.authenticator.specs.declared.consent.Consent.{Consent}
 use Rattle.key_pin.specs.Calls.{Call, next, nexts}
 use Rattle.key_pin.specs.Laws.{PinLaws}
 use Rattle.key_pin.specs.State.{PinState}
 use Rattle.key_device.specs.Computing.{claim_of}
 use Rattle.key_device.specs.Deciding.{Handed, as_it_is, handed}
-use Rattle.key_device.specs.Key.{KeyDeviceState}
+use Rattle.key_device.specs.Key.{Fits, KeyDeviceState, unread}
 use Rattle.key_device.specs.declared.stage.GrantedRequest.{GrantedRequest}
 use Rattle.key_device.specs.declared.stage.Stage.{Stage}
 use Rattle.key_device.specs.declared.stage.Stage.TheVariants as stages
 use Rattle.key_runs.specs.Runs.{Acts, AreCalls, IsKeyRun, KeyMoment, MayCall, key_after}
-use Rattle.key_runs.specs.Vouched.{Holds, IsUngranted, IsVouched, KeyRuns}
+use Rattle.key_runs.specs.Vouched.{Holds, IsUngranted, IsVouched, KeyRuns, LoadedRuns}
 use Rattle.key_runs.proofs.Steps.{GrantsNow, acts}
 
 -- calls after calls
@@ -31,7 +32,7 @@ all-snoc P [] m all h = (h, tt)
 all-snoc P (x ∷ ms) m all h = (all.0, all-snoc P ms m all.1 h)
 
 -- so far
-record Held (s : PinState) (past : List KeyMoment) (k : KeyDeviceState) : Type 0 where
+pub record Held (s : PinState) (past : List KeyMoment) (k : KeyDeviceState) : Type 0 where
   pub calls : List Call
   pub are_calls : AreCalls past calls
   pub pin : k.pin ≡ Some (nexts calls s)
@@ -71,7 +72,7 @@ module _ (laws : PinLaws) (s : PinState) (none : s.token ≡ None) where
     waits = (now, tt);
   }
 
-  step : (past : List KeyMoment) (m : KeyMoment) → Held s past m.old → Acts m.old m.act m.new → Held s (past ++ m ∷ []) m.new
+  pub step : (past : List KeyMoment) (m : KeyMoment) → Held s past m.old → Acts m.old m.act m.new → Held s (past ++ m ∷ []) m.new
   step past m h does =
       let x = acts (nexts h.calls s) m.old m.new h.pin m.act does in
       record {
@@ -91,7 +92,7 @@ module _ (laws : PinLaws) (s : PinState) (none : s.token ≡ None) where
       (over (past ++ m ∷ []) m.new run (step past m (subst (λ (z : KeyDeviceState). Held s past z) (sym is.0) h) is.1) is.2)
 
   -- a user who is verified
-  handed_granted : (u : PinState) (stage : Stage) (bs : List ℕ) (consent : Consent) (h : Handed) → handed (Some u) stage bs consent ≡ Some h
+  pub handed_granted : (u : PinState) (stage : Stage) (bs : List ℕ) (consent : Consent) (h : Handed) → handed (Some u) stage bs consent ≡ Some h
       → h.consent.verified ≡ true → (g : GrantedRequest) × (stage ≡ stages.Granted g)
   handed_granted u (stages.Granted g) bs consent h is verified = (g, refl)
   handed_granted u stages.User bs consent h is verified =
@@ -119,3 +120,15 @@ module _ (laws : PinLaws) (s : PinState) (none : s.token ≡ None) where
 
 pub key_runs : PinLaws → KeyRuns
 key_runs laws k s run pin none ungranted is = held laws s none k run pin ungranted is
+
+-- where a PIN is loaded nothing was granted by it
+anew : (pin : Option PinState) (t : TransactionState) (stage : Stage) → Fits pin t stage → IsUngranted (unread t stage)
+anew pin Idle stage fits g now = let bad : stages.Nothing ≡ stages.Granted g = sym fits ∙ now in absurd cc
+anew pin (Receiving cid cmd len next bytes) stage fits g now = let bad : stages.Nothing ≡ stages.Granted g = sym fits ∙ now in absurd cc
+anew pin (Working cid payload) stage fits g now = let bad : stages.Unread ≡ stages.Granted g = now in absurd cc
+
+pub loaded_runs : PinLaws → LoadedRuns
+loaded_runs laws old k bytes run sound loads is =
+    let stage : k.stage ≡ unread old.device.state old.stage = ap (λ (z : KeyDeviceState). z.stage) loads.4 in
+    key_runs laws k loads.0 run (ap (λ (z : KeyDeviceState). z.pin) loads.4) (ap (λ (z : PinState). z.token) loads.3)
+    (subst IsUngranted (sym stage) (anew old.pin old.device.state old.stage sound.stage)) is

@@ -7,7 +7,7 @@ use Rattle.key_pin.specs.Given.{IsVouchedFor}
 use Rattle.key_pin.specs.State.{PinState}
 use Rattle.key_device.specs.Computing.{Entries, IsGrantedRequest, claim_of}
 use Rattle.key_device.specs.Deciding.{Handed, handed}
-use Rattle.key_device.specs.Key.{KeyDeviceState}
+use Rattle.key_device.specs.Key.{IsPinLoaded, IsSound, KeyDeviceState}
 use Rattle.key_device.specs.declared.stage.GrantedRequest.{GrantedRequest}
 use Rattle.key_device.specs.declared.stage.ProtectedAsked.{ProtectedAsked}
 use Rattle.key_device.specs.declared.stage.Stage.{Stage}
@@ -49,3 +49,9 @@ abbrev pub KeyRuns : Type 0
 KeyRuns =
     (k : KeyDeviceState) (s : PinState) (run : List KeyMoment) → k.pin ≡ Some s → s.token ≡ None → IsUngranted k.stage → IsKeyRun k run
     → Holds s run (key_after k run)
+
+-- so it is from each load of a PIN on, whatever the key was before: by the PIN that was loaded, and calls since then
+abbrev pub LoadedRuns : Type 0
+LoadedRuns =
+    (old k : KeyDeviceState) (bytes : List ℕ) (run : List KeyMoment) → IsSound old → (loads : IsPinLoaded old bytes k) → IsKeyRun k run
+    → Holds loads.0 run (key_after k run)

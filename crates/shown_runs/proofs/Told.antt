@@ -280,8 +280,9 @@ module _ (b : Below bench_valid bench_public) (laws : OfAllRuns bench_valid benc
 
   entries_elsewhere : second_entry ≢ third_entry
   entries_elsewhere same =
-      let once : RestsOnce m19 m25 = agreement.rests_once 18 24 m14 (omega arith) (omega arith) in
+      let once : RestsOnce run m19 m25 = agreement.rests_once 18 24 m14 (omega arith) (omega arith) in
       once 0 1 4 2 by_one_again by_three (row 1 1) (row 3 0) accepted_second accepted_third (λ e. absurd (two_parties e)) (λ e. absurd (texts_elsewhere e))
+      (λ e. let bad : 0 ≡ 1 = e in omega (arith, bad))
       second_entry rests_second (subst (λ (x : Entry). RestsOn m25 by_three (row 3 0) x) (sym same) rests_third)
 
   abbrev sign_ins : SignIns run

@@ -1,4 +1,4 @@
-//! There are runs of which each law of runs says something.
+//! There are runs about which each law of runs says something.
 
 ghost use Rattle.cose.specs.Bench.{bench_public, bench_valid};
 ghost use Rattle.shown_runs.specs.Forged.{ForgedRun};

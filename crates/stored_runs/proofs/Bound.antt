@@ -124,7 +124,7 @@ module _ {S : Type 0} (view : S → View) (old new : StoredState S) where
         ),
       )
 
-  -- as many ids are retired, or deleted, as is told
+  -- as many ids are retired, or deleted, as is answered
   same_length : {X Y : Type 0} (f : X → Y) (xs : List X) → length (map f xs) ≡ length xs
   same_length f [] = refl
   same_length f (x ∷ xs) = ap suc (same_length f xs)

@@ -43,7 +43,7 @@ module _ (i : ℕ) (t : site.SiteState) where
 abbrev pub told_as : Event → EventEnd → WorldBeside → List Told
 told_as e end b = record { event = e; end = end; world = b } ∷ []
 
--- it is told as it is
+-- it is reported as it is
 pub told_elsewhere : (i : ℕ) (e : Event) (end : EventEnd) (w : World) → IsElsewhere i e
     → told_at i w e end ≡ told_as e end (beside i w)
 told_elsewhere i (AtSite j e) end w apart = elim (eqb_tells j i) [

@@ -163,7 +163,7 @@ module _ (b : Below bench_valid bench_public) where
       })
       (everything.signs_by_response bench_valid bench_public b bench_keeps_alg (one.run b) (one.honest b) (one.place b) (one.takes_place b)).passes
 
-  -- ---- what is told
+  -- ---- what is answered
 
   pub known_format : IsKnownFormat reads.object.fmt
   known_format =

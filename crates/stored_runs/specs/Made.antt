@@ -17,7 +17,7 @@ abbrev pub kept_as : {S : Type 0} → (S → View) → StoredState S → Placed 
 kept_as view s placed ended = record { state = s; placed = placed; ended = ended; trees = (view s.store).trees }
 
 -- Where the disk has given back what was written, and whatever credentials and endings the trees held, they hold others that such a call makes of
--- them. What its caller does not name, as the number of a session, is told.
+-- them. What its caller does not name, as the number of a session, is answered.
 abbrev pub Makes : {S A : Type 0} → (S → View) → Validity → StoredState S → (A → Call) → StoredState S → Type 0
 Makes {S} {A} view valid old calls new =
     IsClean (view new.store) → (placed : Placed) (ended : Endings) → IsKept (kept_as view old placed ended)
