@@ -12,7 +12,7 @@ from garvoeng.signatures import is_valid
 STATUS = {"accepted": 0, "refused": 1, "not judged": 2}
 # JSON that nests deeper than the program reads.
 TOO_DEEP = "deep results of extensions"
-MEMBERS = ("number", "code", "name", "standard", "asks", "state", "refusal", "when", "advice")
+MEMBERS = ("number", "code", "name", "standard", "asks", "state", "refusal", "when", "advice", "bytes")
 passed = failed = 0
 room = Path(tempfile.mkdtemp())
 
@@ -24,8 +24,14 @@ def told_of(case):
     return (json.loads(ran.stdout) if ran.stdout else None), ran.returncode, ran.stderr.decode()
 
 
+def ordered(said):
+    """A line of a step. The program writes an object's members by their names, the others in the order of the response."""
+    is_object = said["of"].startswith("the client data's") and said["text"].startswith("{")
+    return {**said, "text": json.loads(said["text"])} if is_object else said
+
+
 def rows(told):
-    return [[step[name] for name in MEMBERS] for step in told["steps"]]
+    return [[[ordered(one) for one in step[name]] if name == "bytes" else step[name] for name in MEMBERS] for step in told["steps"]]
 
 
 def difference(case, wanted):
@@ -36,7 +42,7 @@ def difference(case, wanted):
             return "a signature that is asked for, of a case that is judged"
         asked = {name: from_text(value, name) for name, value in told["signature"].items() if name != "algorithm"}
         told, status, _ = told_of({**case, "signature_verified": is_valid(told["signature"]["algorithm"], **asked)})
-    for name in ("kind", "verdict", "refusal"):
+    for name in ("kind", "verdict", "refusal", "credential", "decoded"):
         if told[name] != wanted[name]:
             return name, told[name], wanted[name]
     if (told["fault"] is None) != (wanted["fault"] is None) or told["signature"] is not None or status != STATUS[wanted["verdict"]]:

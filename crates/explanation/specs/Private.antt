@@ -22,7 +22,7 @@ abbrev pub FailAs : {S : Type 0} → Option S → List S → List (ToldStep S) �
 FailAs None steps rows = rows ≡ told Passed steps
 FailAs (Some step) steps rows = ((Contains steps step → ⊥) × (rows ≡ told Passed steps)) ⊎ FailAt step steps rows
 
--- what is told of a step by whether it is reached, and whether it is the one that fails
+-- a step's state, by whether it is reached, and whether it is the one that fails
 abbrev pub state_as : Bool → Bool → StepState
 state_as false is_failed = NotReached
 state_as true true = Failed

@@ -1,4 +1,4 @@
--- What is told of the steps of sections 7.1 and 7.2 of WebAuthn.
+-- What is reported of the steps of sections 7.1 and 7.2 of WebAuthn.
 use Rattle.std.specs.Prelude.{◌≡◌, ◌++◌, ◌∷◌, ◌⊎◌, List, Bool, true, map}
 use Rattle.refusal_order.specs.Lines.{Each}
 use Rattle.cose.specs.Schemes.{Validity}
@@ -13,16 +13,16 @@ signature_is valid key message signature = valid ≡ true
 abbrev pub row : {S : Type 0} → StepState → S → ToldStep S
 row state step = record { step = step; state = state }
 
--- steps, and the same told of each
+-- each step, reported with this state
 abbrev pub told : {S : Type 0} → StepState → List S → List (ToldStep S)
 told state steps = map (row state) steps
 
--- each step is passed, and told as passed
+-- each step is passed, and reported so
 abbrev pub AllPass : {S : Type 0} → (S → Type 0) → List S → List (ToldStep S) → Type 0
 AllPass Passes steps rows = Each Passes steps × (rows ≡ told Passed steps)
 
--- one step is not passed, and told as failed; each before it is passed, and told as passed; those after it are told as not
--- reached
+-- one step is not passed, and is reported as failed; each before it is passed, and reported so; those after it are reported
+-- as not reached
 abbrev pub OneFails : {S : Type 0} → (S → Type 0) → List S → List (ToldStep S) → Type 0
 OneFails {S} Passes steps rows =
     (before : List S) × (step : S) × (after : List S) × (steps ≡ before ++ step ∷ after)

@@ -1,32 +1,37 @@
 //! A case explained.
 
-use crate::case::{
-    Kind, check_case, flag_or_none, parts_of, party_of, policy_of, raw_id, value_of,
-};
-use crate::error::CaseError;
+use crate::asked;
+use crate::compared::compared;
+use crate::contents::{Contents, contents_text};
+use crate::facts::{Facts, registration_session, sign_in_session};
 use crate::judged::{explain_registration, explain_sign_in};
-use crate::row::{CredentialRow, credential_row};
-use crate::shown::{Shown, ShownStep, Words, shown_steps, unreached};
+use crate::lines::Lines;
+use crate::shown::{Shown, ShownStep, Words, is_asked, shown_steps, unreached};
+use crate::stored::{stored_by_registration, stored_by_sign_in};
 use crate::words::{REGISTRATION, SIGN_IN};
-use crate::{asked, sessions};
-use json_lines::{bytes, flag, needed, optional_bytes};
+use authdata::Profile;
+use decoded::Fault;
+use explanation_case::{
+    CaseError, CredentialRow, Kind, Parts, RegistrationCase, SignInCase, parts_of, value_of,
+};
 use serde_json::Value;
 use std::alloc::{AllocError, Global};
-use verification::{
-    AssertionParts, RegistrationAttempt, RegistrationParts, RowView, SignInAttempt,
-    VerifiedSignature,
-};
+use verification::{Policy, RegistrationAttempt, RowView, SignInAttempt, VerifiedSignature};
 
-/// What is told of a case.
+/// What is explained of a case.
 #[derive(Drop)]
 pub struct Explained {
-    /// What its response answers, where it has one.
+    /// The kind of its response, if it has one.
     pub kind: Option<Kind>,
-    /// Why it is not judged, where it cannot be.
+    /// Why it is not judged, if it cannot be.
     pub fault: Option<CaseError>,
     pub(crate) steps: Vec<ShownStep>,
     /// The signature that is not judged.
     pub(crate) asked: Option<VerifiedSignature>,
+    /// The credential to store, in JSON.
+    pub(crate) stored: Option<String>,
+    /// What the response contains, in JSON.
+    pub(crate) contents: Option<String>,
 }
 
 /// What a case comes to.
@@ -37,11 +42,17 @@ pub enum Verdict {
     NotJudged,
 }
 
-/// The steps, and the signature that they ask for.
-#[derive(Drop)]
-struct Judged {
-    steps: Vec<ShownStep>,
-    asked: Option<VerifiedSignature>,
+/// What steps come to: accepted if each is passed, and refused if one fails and each before it is passed, whatever the
+/// signature is.
+fn verdict_of(steps: &[ShownStep]) -> Verdict {
+    for step in steps {
+        match step.shown {
+            Shown::Passed => {}
+            Shown::Failed => return Verdict::Refused,
+            Shown::NotJudged | Shown::NotReached => return Verdict::NotJudged,
+        }
+    }
+    Verdict::Accepted
 }
 
 impl Explained {
@@ -57,47 +68,13 @@ impl Explained {
         None
     }
 
-    /// What the case comes to: it is accepted where each step is passed, and refused where one fails of which each before it
-    /// is passed, whatever the signature is.
+    /// What the case comes to.
     pub fn verdict(&self) -> Verdict {
-        for step in &self.steps {
-            match step.shown {
-                Shown::Passed => {}
-                Shown::Failed => return Verdict::Refused,
-                Shown::NotJudged | Shown::NotReached => return Verdict::NotJudged,
-            }
-        }
         if self.fault.is_some() {
             return Verdict::NotJudged;
         }
-        Verdict::Accepted
+        verdict_of(&self.steps)
     }
-}
-
-/// The signature, if one of the steps is open for it.
-fn unless_judged(
-    steps: &[ShownStep],
-    asked: Option<VerifiedSignature>,
-) -> Option<VerifiedSignature> {
-    for step in steps {
-        if step.shown == Shown::NotJudged {
-            return asked;
-        }
-    }
-    None
-}
-
-/// The steps of a sign-in, where its signature is said to be valid or not, or nothing is said of it.
-fn sign_in_steps(
-    alloc: Global,
-    attempt: &SignInAttempt<'_, '_>,
-    said: Option<bool>,
-) -> Result<Judged, AllocError> {
-    let valid = explain_sign_in(alloc, attempt, said.unwrap_or(true))?;
-    let invalid = explain_sign_in(alloc, attempt, said.unwrap_or(false))?;
-    let steps = shown_steps(alloc, &SIGN_IN, &valid, &invalid)?;
-    let asked = unless_judged(&steps, asked::of_sign_in(alloc, attempt)?);
-    Ok(Judged { steps, asked })
 }
 
 /// A row, lent.
@@ -108,35 +85,61 @@ fn lent(row: &Option<CredentialRow>) -> Option<RowView<'_>> {
     }
 }
 
-/// A sign-in's case judged, by its parts.
-fn sign_in(alloc: Global, case: &Value, parts: &Value) -> Result<Judged, CaseError> {
-    let party = party_of(alloc, case)?;
-    policy_of(case)?;
-    let session = sessions::of_sign_in(alloc, case)?;
-    let row = credential_row(alloc, case)?;
-    let id = raw_id(alloc, needed(case, "response")?)?;
-    let client_data = bytes(alloc, parts, "clientDataJSON")?;
-    let auth_data = bytes(alloc, parts, "authenticatorData")?;
-    let signature = bytes(alloc, parts, "signature")?;
-    let user = optional_bytes(alloc, parts, "userHandle")?;
-    let said = flag_or_none(case, "signature_verified")?;
-    let user = user.as_deref();
-    let response = AssertionParts {
-        credential: id.as_slice(),
-        user,
-        auth_data: auth_data.as_slice(),
-        signature: signature.as_slice(),
-        client_data: client_data.as_slice(),
+/// The lines of a step.
+fn lines_of(alloc: Global, name: &str, facts: &Facts<'_>) -> Result<Lines, AllocError> {
+    let mut lines = Lines::new(alloc);
+    match compared(name, facts, &mut lines) {
+        Err(Fault::Memory) => Err(AllocError),
+        // What is not readable was looked at before.
+        Ok(()) | Err(Fault::At(_)) => Ok(lines),
+    }
+}
+
+/// The steps with what each looks at.
+fn with_lines(
+    alloc: Global,
+    steps: &[ShownStep],
+    facts: &Facts<'_>,
+) -> Result<Vec<ShownStep>, AllocError> {
+    let mut found = Vec::new(alloc);
+    for step in steps {
+        let lines = lines_of(alloc, step.words.name, facts)?;
+        found.push(ShownStep {
+            words: step.words,
+            shown: step.shown,
+            compared: lines.list,
+        })?;
+    }
+    Ok(found)
+}
+
+/// A signature, unless it is said whether it is valid.
+fn unless_said(asked: Option<VerifiedSignature>, said: Option<bool>) -> Option<VerifiedSignature> {
+    if said.is_some() { None } else { asked }
+}
+
+/// The steps, and the signature that the verdict depends on.
+#[derive(Drop)]
+struct Outcome {
+    steps: Vec<ShownStep>,
+    asked: Option<VerifiedSignature>,
+}
+
+/// The steps of a sign-in, if its signature is said to be valid or not, or nothing is said of it.
+fn sign_in_steps(
+    alloc: Global,
+    attempt: &SignInAttempt<'_, '_>,
+    said: Option<bool>,
+) -> Result<Outcome, AllocError> {
+    let valid = explain_sign_in(alloc, attempt, true)?;
+    let invalid = explain_sign_in(alloc, attempt, false)?;
+    let steps = shown_steps(alloc, &SIGN_IN, &valid, &invalid, said)?;
+    let asked = if is_asked(&valid, &invalid) {
+        asked::of_sign_in(alloc, attempt)?
+    } else {
+        None
     };
-    let session = session.as_ref();
-    let credential = lent(&row);
-    let attempt = SignInAttempt {
-        party: &party,
-        session,
-        credential,
-        response,
-    };
-    Ok(sign_in_steps(alloc, &attempt, said)?)
+    Ok(Outcome { steps, asked })
 }
 
 /// Whether a credential with the id is registered, and whether there is no room for another one.
@@ -146,102 +149,236 @@ struct Place {
     is_full: bool,
 }
 
-/// The steps of a registration, where its signature is said to be valid or not, or nothing is said of it.
+/// The steps of a registration, if its signature is said to be valid or not, or nothing is said of it.
 fn registration_steps(
     alloc: Global,
     attempt: &RegistrationAttempt<'_, '_>,
     said: Option<bool>,
     place: Place,
-) -> Result<Judged, AllocError> {
-    let (yes, no) = (said.unwrap_or(true), said.unwrap_or(false));
-    let valid = explain_registration(alloc, attempt, yes, place.is_registered, place.is_full)?;
-    let invalid = explain_registration(alloc, attempt, no, place.is_registered, place.is_full)?;
-    let steps = shown_steps(alloc, &REGISTRATION, &valid, &invalid)?;
-    let asked = unless_judged(&steps, asked::of_registration(alloc, attempt)?);
-    Ok(Judged { steps, asked })
+) -> Result<Outcome, AllocError> {
+    let valid = explain_registration(alloc, attempt, true, place.is_registered, place.is_full)?;
+    let invalid = explain_registration(alloc, attempt, false, place.is_registered, place.is_full)?;
+    let steps = shown_steps(alloc, &REGISTRATION, &valid, &invalid, said)?;
+    let asked = if is_asked(&valid, &invalid) {
+        asked::of_registration(alloc, attempt)?
+    } else {
+        None
+    };
+    Ok(Outcome { steps, asked })
 }
 
-/// A registration's case judged, by its parts.
-fn registration(alloc: Global, case: &Value, parts: &Value) -> Result<Judged, CaseError> {
-    let party = party_of(alloc, case)?;
-    let policy = policy_of(case)?;
-    let session = sessions::of_registration(alloc, case)?;
-    let id = raw_id(alloc, needed(case, "response")?)?;
-    let client_data = bytes(alloc, parts, "clientDataJSON")?;
-    let object = bytes(alloc, parts, "attestationObject")?;
-    let place = Place {
-        is_registered: flag(case, "registered", false)?,
-        is_full: flag(case, "full", false)?,
+/// A sign-in judged, of which these facts are known.
+fn judged_sign_in(
+    alloc: Global,
+    steps: &[ShownStep],
+    facts: &Facts<'_>,
+) -> Result<(Vec<ShownStep>, Option<String>), AllocError> {
+    let steps = with_lines(alloc, steps, facts)?;
+    let stored = if verdict_of(&steps) == Verdict::Accepted {
+        stored_by_sign_in(alloc, facts)?
+    } else {
+        None
     };
-    let said = flag_or_none(case, "signature_verified")?;
-    let raw_id = Some(id.as_slice());
-    let response = RegistrationParts {
-        object: object.as_slice(),
-        client_data: client_data.as_slice(),
-        raw_id,
-    };
-    let session = session.as_ref();
-    let attempt = RegistrationAttempt {
-        party: &party,
-        policy,
-        session,
-        response,
-    };
-    Ok(registration_steps(alloc, &attempt, said, place)?)
+    Ok((steps, stored))
 }
 
-/// A case judged whose response is of this kind.
-fn judge(alloc: Global, case: &Value, parts: &Value, kind: Kind) -> Result<Judged, CaseError> {
-    check_case(case)?;
-    match kind {
-        Kind::SignIn => sign_in(alloc, case, parts),
-        Kind::Registration => registration(alloc, case, parts),
+/// A registration judged, of which these facts are known.
+fn judged_registration(
+    alloc: Global,
+    steps: &[ShownStep],
+    facts: &Facts<'_>,
+    profile: Profile,
+) -> Result<(Vec<ShownStep>, Option<String>), AllocError> {
+    let steps = with_lines(alloc, steps, facts)?;
+    let stored = if verdict_of(&steps) == Verdict::Accepted {
+        stored_by_registration(alloc, facts, profile)?
+    } else {
+        None
+    };
+    Ok((steps, stored))
+}
+
+/// What is known of a sign-in.
+fn sign_in_facts<'x>(
+    case: &'x Value,
+    parts: &'x Parts,
+    contents: &'x Contents<'x>,
+    read: &'x SignInCase<'x>,
+    asked: Option<&'x VerifiedSignature>,
+) -> Facts<'x> {
+    Facts {
+        case,
+        kind: Kind::SignIn,
+        parts,
+        contents,
+        rp_id: read.party.rp_id(),
+        session: sign_in_session(read),
+        row: lent(&read.row),
+        policy: Policy {
+            accept_none: true,
+            accept_self: true,
+        },
+        is_registered: false,
+        is_full: false,
+        asked,
+        valid: read.said,
     }
 }
 
-/// The words of the steps of a kind.
-fn table_of(kind: Kind) -> &'static [Words] {
-    match kind {
-        Kind::SignIn => &SIGN_IN,
-        Kind::Registration => &REGISTRATION,
+/// What is known of a registration.
+fn registration_facts<'x>(
+    case: &'x Value,
+    parts: &'x Parts,
+    contents: &'x Contents<'x>,
+    read: &'x RegistrationCase<'x>,
+    asked: Option<&'x VerifiedSignature>,
+) -> Facts<'x> {
+    Facts {
+        case,
+        kind: Kind::Registration,
+        parts,
+        contents,
+        rp_id: read.party.rp_id(),
+        session: registration_session(read),
+        row: None,
+        policy: read.policy,
+        is_registered: read.is_registered,
+        is_full: read.is_full,
+        asked,
+        valid: read.said,
     }
 }
 
-/// A case that is not judged.
+/// A case that is not judged, and what its response contains.
 fn not_judged(
     alloc: Global,
-    kind: Option<Kind>,
+    kind: Kind,
     fault: CaseError,
-) -> Result<Explained, AllocError> {
-    let steps = match kind {
-        Some(kind) => unreached(alloc, table_of(kind))?,
-        None => Vec::new(alloc),
+    contents: String,
+) -> Result<Explained, CaseError> {
+    let table: &'static [Words] = match kind {
+        Kind::SignIn => &SIGN_IN,
+        Kind::Registration => &REGISTRATION,
     };
+    if let CaseError::Memory = fault {
+        return Err(fault);
+    }
     Ok(Explained {
-        kind,
+        kind: Some(kind),
         fault: Some(fault),
-        steps,
+        steps: unreached(alloc, table)?,
         asked: None,
+        stored: None,
+        contents: Some(contents),
     })
 }
 
-/// What is told of a case in JSON: of the value that the bytes are, which has a response and what it is judged by.
+/// What a response contains, in JSON.
+fn contents_of(
+    alloc: Global,
+    kind: Kind,
+    response: &Value,
+    parts: &Parts,
+    contents: &Contents<'_>,
+) -> Result<String, CaseError> {
+    match contents_text(alloc, kind, response, parts, contents) {
+        Ok(text) => Ok(text),
+        Err(_) => Err(CaseError::Memory),
+    }
+}
+
+/// A sign-in's case explained.
+fn sign_in(
+    alloc: Global,
+    case: &Value,
+    response: &Value,
+    inner: &Value,
+) -> Result<Explained, CaseError> {
+    let parts = Parts::read(alloc, response, inner)?;
+    let contents = Contents::read(alloc, Kind::SignIn, &parts)?;
+    let text = contents_of(alloc, Kind::SignIn, response, &parts, &contents)?;
+    let read = match SignInCase::read(alloc, case, inner, &parts) {
+        Ok(read) => read,
+        Err(fault) => return not_judged(alloc, Kind::SignIn, fault, text),
+    };
+    let session = read.session.as_ref();
+    let credential = lent(&read.row);
+    let attempt = SignInAttempt {
+        party: &read.party,
+        session,
+        credential,
+        response: read.response,
+    };
+    let outcome = sign_in_steps(alloc, &attempt, read.said)?;
+    let facts = sign_in_facts(case, &parts, &contents, &read, outcome.asked.as_ref());
+    let (steps, stored) = judged_sign_in(alloc, &outcome.steps, &facts)?;
+    Ok(Explained {
+        kind: Some(Kind::SignIn),
+        fault: None,
+        steps,
+        asked: unless_said(outcome.asked, read.said),
+        stored,
+        contents: Some(text),
+    })
+}
+
+/// A registration's case explained.
+fn registration(
+    alloc: Global,
+    case: &Value,
+    response: &Value,
+    inner: &Value,
+) -> Result<Explained, CaseError> {
+    let parts = Parts::read(alloc, response, inner)?;
+    let contents = Contents::read(alloc, Kind::Registration, &parts)?;
+    let text = contents_of(alloc, Kind::Registration, response, &parts, &contents)?;
+    let read = match RegistrationCase::read(alloc, case, inner, &parts) {
+        Ok(read) => read,
+        Err(fault) => return not_judged(alloc, Kind::Registration, fault, text),
+    };
+    let session = read.session.as_ref();
+    let attempt = RegistrationAttempt {
+        party: &read.party,
+        policy: read.policy,
+        session,
+        response: read.response,
+    };
+    let place = Place {
+        is_registered: read.is_registered,
+        is_full: read.is_full,
+    };
+    let outcome = registration_steps(alloc, &attempt, read.said, place)?;
+    let facts = registration_facts(case, &parts, &contents, &read, outcome.asked.as_ref());
+    let profile = read.party.profile();
+    let (steps, stored) = judged_registration(alloc, &outcome.steps, &facts, profile)?;
+    Ok(Explained {
+        kind: Some(Kind::Registration),
+        fault: None,
+        steps,
+        asked: unless_said(outcome.asked, read.said),
+        stored,
+        contents: Some(text),
+    })
+}
+
+/// Explains a case in JSON: the value that the bytes are, with a response and what it is judged by.
 ///
-/// Refused as `NotUtf8`, `TooDeep` and `NotJson` where the bytes are no value, and as `Memory`; every other error stands in
-/// what is told, as its `fault`.
+/// Refused as `NotUtf8`, `TooDeep` and `NotJson` if the bytes are no value, and as `Memory`; every other error is the `fault`
+/// of what is explained.
 pub fn explain(alloc: Global, input: &[u8]) -> Result<Explained, CaseError> {
     let case = value_of(alloc, input)?;
-    let Some((parts, kind)) = parts_of(&case) else {
-        return Ok(not_judged(alloc, None, CaseError::NoResponse)?);
-    };
-    match judge(alloc, &case, parts, kind) {
-        Ok(judged) => Ok(Explained {
-            kind: Some(kind),
-            fault: None,
-            steps: judged.steps,
-            asked: judged.asked,
-        }),
-        Err(CaseError::Memory) => Err(CaseError::Memory),
-        Err(fault) => Ok(not_judged(alloc, Some(kind), fault)?),
+    if let (Some(response), Some((inner, kind))) = (case.get("response"), parts_of(&case)) {
+        return match kind {
+            Kind::SignIn => sign_in(alloc, &case, response, inner),
+            Kind::Registration => registration(alloc, &case, response, inner),
+        };
     }
+    Ok(Explained {
+        kind: None,
+        fault: Some(CaseError::NoResponse),
+        steps: Vec::new(alloc),
+        asked: None,
+        stored: None,
+        contents: None,
+    })
 }

@@ -1,22 +1,22 @@
-//! Why a relying party accepts or refuses a response: each step by which it verifies it, with what is told of it (WebAuthn,
+//! Why a relying party accepts or refuses a response: each step by which it verifies it, and whether the response passes it (WebAuthn,
 //! sections 7.1 and 7.2).
 #![tactic(auto)]
 
 mod asked;
-mod case;
-mod error;
+mod compared;
+mod contents;
 mod explaining;
+mod facts;
 mod judged;
-mod row;
-mod sessions;
+mod lines;
+mod numbers;
 mod shown;
 mod signature;
+mod stored;
 mod told;
 mod words;
 mod written;
 
-pub use case::Kind;
-pub use error::CaseError;
 pub use explaining::{Explained, Verdict, explain};
 pub use judged::{explain_registration, explain_sign_in};
 pub use told::{StepState, ToldStep};

@@ -1,9 +1,10 @@
 //! The steps as they are shown.
 
+use crate::lines::Line;
 use crate::told::{Step, StepState, ToldStep};
 use std::alloc::{AllocError, Global};
 
-/// What is told of a step beside its state.
+/// What is shown of a step beside its state.
 pub(crate) struct Words {
     /// The number of the refusal.
     pub number: u8,
@@ -43,20 +44,39 @@ impl Shown {
 }
 
 /// A step as it is shown.
-#[derive(Clone, Copy, Drop)]
+#[derive(Drop)]
 pub(crate) struct ShownStep {
     pub words: &'static Words,
     pub shown: Shown,
+    /// What it looks at; nothing of a case that is not judged.
+    pub compared: Vec<Line>,
 }
 
-/// What is shown of a step by what is told of it where the signature is valid, and where it is not.
-fn shown_of(valid: StepState, invalid: StepState) -> Shown {
-    match (valid, invalid) {
-        (StepState::Passed, StepState::Failed) => Shown::NotJudged,
-        (StepState::Passed, _) => Shown::Passed,
-        (StepState::Failed, _) => Shown::Failed,
-        (StepState::NotReached, _) => Shown::NotReached,
+/// How a step is shown, by its states if the signature is valid and if it is not, and by what the case says of it.
+fn shown_of(valid: StepState, invalid: StepState, said: Option<bool>) -> Shown {
+    let state = match said {
+        Some(false) => invalid,
+        Some(true) => valid,
+        None if (valid, invalid) == (StepState::Passed, StepState::Failed) => {
+            return Shown::NotJudged;
+        }
+        None => valid,
+    };
+    match state {
+        StepState::Passed => Shown::Passed,
+        StepState::Failed => Shown::Failed,
+        StepState::NotReached => Shown::NotReached,
     }
+}
+
+/// Whether the verdict depends on the signature.
+pub(crate) fn is_asked<S: Step>(valid: &[ToldStep<S>], invalid: &[ToldStep<S>]) -> bool {
+    for (yes, no) in valid.iter().zip(invalid) {
+        if (yes.state, no.state) == (StepState::Passed, StepState::Failed) {
+            return true;
+        }
+    }
+    false
 }
 
 /// The words of a number.
@@ -69,18 +89,24 @@ fn words_of(table: &'static [Words], number: u8) -> Option<&'static Words> {
     None
 }
 
-/// The steps by what is told of them where the signature is valid, and where it is not.
+/// The steps as they are shown, by their states if the signature is valid and if it is not, and by what the case says of it.
 pub(crate) fn shown_steps<S: Step>(
     alloc: Global,
     table: &'static [Words],
     valid: &[ToldStep<S>],
     invalid: &[ToldStep<S>],
+    said: Option<bool>,
 ) -> Result<Vec<ShownStep>, AllocError> {
     let mut steps = Vec::new(alloc);
     for (yes, no) in valid.iter().zip(invalid) {
         if let Some(words) = words_of(table, yes.step.step_number()) {
-            let shown = shown_of(yes.state, no.state);
-            steps.push(ShownStep { words, shown })?;
+            let shown = shown_of(yes.state, no.state, said);
+            let compared = Vec::new(alloc);
+            steps.push(ShownStep {
+                words,
+                shown,
+                compared,
+            })?;
         }
     }
     Ok(steps)
@@ -96,6 +122,7 @@ pub(crate) fn unreached(
         steps.push(ShownStep {
             words,
             shown: Shown::NotReached,
+            compared: Vec::new(alloc),
         })?;
     }
     Ok(steps)

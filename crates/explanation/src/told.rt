@@ -1,4 +1,4 @@
-//! What is told of steps.
+//! The states of steps.
 
 ghost use Rattle.std.specs.Prelude.{◌≡◌, ◌↔◌, IfOk, IsTrue, Some};
 ghost use Rattle.explanation.specs.Private.{FailAs, reached_after, state_as};
@@ -6,7 +6,7 @@ ghost use Rattle.explanation.specs.Private.{FailAs, reached_after, state_as};
 use std::alloc::{AllocError, Global};
 use verification::{RegistrationRefusal, SignInRefusal};
 
-/// What is told of a step.
+/// The state of a step.
 #[derive(Clone, Copy, Debug, PartialEq, Eq, Drop)]
 pub enum StepState {
     /// The response passes it.
@@ -17,7 +17,7 @@ pub enum StepState {
     NotReached,
 }
 
-/// A step, by the refusal that names it, and what is told of it.
+/// A step, by the refusal that names it, and its state.
 #[derive(Clone, Copy, Debug, Drop)]
 pub struct ToldStep<S> {
     pub step: S,
@@ -64,7 +64,7 @@ fn is_failed<S: Step>(failed: Option<S>, step: S) -> bool
     }
 }
 
-/// What is told of a step, after steps that are all passed, or not, if it is the one that fails, or not.
+/// A step's state, by whether each before it is passed, and whether it is the one that fails.
 fn state_of(reached: bool, is_failed: bool) -> StepState
     ensures { result ≡ state_as reached is_failed }
 {
@@ -84,7 +84,7 @@ fn is_reached(reached: bool, is_failed: bool) -> bool
     reached && !is_failed
 }
 
-/// Each step in order, told by the one that fails.
+/// Each step in order with its state, by the one that fails.
 pub(crate) fn tell<S: Step>(
     alloc: Global,
     steps: &[S],

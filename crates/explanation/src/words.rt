@@ -1,4 +1,4 @@
-//! What is told of each step beside its state: ./dev pages writes it from docs/REFUSALS.md and inspector/questions.json.
+//! What is shown of each step beside its state: ./dev pages writes it from docs/REFUSALS.md and inspector/questions.json.
 
 use crate::shown::Words;
 
@@ -11,7 +11,7 @@ pub(crate) static REGISTRATION: [Words; 19] = [
         asks: "Is a session open for this registration?",
         text: "the session is not open for registration",
         when: "The session is not open, or is one for sign-in.",
-        advice: "Begin again. A session answers one response and then ends; it also ends by time, or with the process that kept it. Check that the site finds the session that the visitor's cookie names.",
+        advice: "Begin again. A session answers one response and then ends; it also expires, and may end with the process that kept it. Check that the site finds the session that the visitor's cookie names.",
     },
     Words {
         number: 2,
@@ -20,7 +20,7 @@ pub(crate) static REGISTRATION: [Words; 19] = [
         asks: "Can the client data be read, as JSON with a type, a challenge and an origin?",
         text: "the client data cannot be read",
         when: "The client data cannot be read.",
-        advice: "Hand on clientDataJSON as the browser made it: the same bytes, in base64url, neither parsed and written anew nor encoded twice.",
+        advice: "Pass clientDataJSON on as the browser made it: the same bytes, in base64url, neither parsed and rewritten nor encoded twice.",
     },
     Words {
         number: 3,
@@ -38,7 +38,7 @@ pub(crate) static REGISTRATION: [Words; 19] = [
         asks: "Is the challenge the one that this site gave?",
         text: "the challenge is not the session's",
         when: "The challenge is not the session's.",
-        advice: "Begin again: the response answers another session, or the challenge was encoded twice on its way to the page. Compare the two byte by byte. If visitors see this often, look at your logs for answers that were sent again.",
+        advice: "Begin again: the response answers another session, or the challenge was encoded twice on its way to the page. Compare the two byte by byte. If visitors see this often, look in your logs for responses that were sent twice.",
     },
     Words {
         number: 5,
@@ -47,7 +47,7 @@ pub(crate) static REGISTRATION: [Words; 19] = [
         asks: "Is the page's origin one of this site's?",
         text: "the origin is not the relying party's",
         when: "The origin is none of the relying party's.",
-        advice: "If the page is yours, add its origin, as the client data say it, to the site's origins: scheme, host and port, without a path. If it is not yours, this is what phishing looks like: add nothing.",
+        advice: "If the page is yours, add its origin, as the client data have it, to the site's origins: scheme, host and port, without a path. If it is not yours, this is what phishing looks like: add nothing.",
     },
     Words {
         number: 17,
@@ -56,7 +56,7 @@ pub(crate) static REGISTRATION: [Words; 19] = [
         asks: "Is the page in no other site's frame, unless the site allows frames?",
         text: "the page is in another site's frame",
         when: "In Level 3, `crossOrigin` is neither absent nor `false`, or there is a `topOrigin`, and the relying party names no page that may frame its own; or `crossOrigin` is no truth value.",
-        advice: "If another site may show yours in a frame, name the origin of its page among the top origins. Else send a frame-ancestors policy, so that none can.",
+        advice: "If another site may show yours in a frame, name the origin of its page among the top origins. Otherwise send a frame-ancestors policy, so that none can.",
     },
     Words {
         number: 18,
@@ -65,7 +65,7 @@ pub(crate) static REGISTRATION: [Words; 19] = [
         asks: "Is the page at the top one that may frame this site?",
         text: "the page at the top is none that the relying party names",
         when: "In Level 3, `crossOrigin` is `true` or there is a `topOrigin`, and it is none of the pages that may frame the relying party's.",
-        advice: "If the page at the top may frame yours, add its origin, as the client data say it, to the top origins.",
+        advice: "If the page at the top may frame yours, add its origin, as the client data have it, to the top origins.",
     },
     Words {
         number: 6,
@@ -74,7 +74,7 @@ pub(crate) static REGISTRATION: [Words; 19] = [
         asks: "Is token binding left unused?",
         text: "token binding is used",
         when: "Token binding is used.",
-        advice: "No browser of today uses token binding. Take the Level 3 profile, which does not look at it, or look at what stands between the browser and the site.",
+        advice: "No browser uses token binding today. Choose the Level 3 profile, which ignores it, or check what stands between the browser and the site.",
     },
     Words {
         number: 7,
@@ -83,7 +83,7 @@ pub(crate) static REGISTRATION: [Words; 19] = [
         asks: "Can the attestation object be read, and does it attest a credential?",
         text: "the attestation object cannot be read, or attests no credential",
         when: "The bytes are no attestation object, or its authenticator data cannot be read or attest no credential.",
-        advice: "Hand on attestationObject as the browser made it. If it is whole, the authenticator writes what the profile does not take: the strict one takes no extensions and no id of more than 64 bytes.",
+        advice: "Pass attestationObject on as the browser made it. If it is unchanged, the authenticator uses something that the profile does not accept: the strict one accepts no extensions and no id of more than 64 bytes.",
     },
     Words {
         number: 8,
@@ -92,7 +92,7 @@ pub(crate) static REGISTRATION: [Words; 19] = [
         asks: "Did the authenticator make the credential for this rp id?",
         text: "the authenticator data are for another relying party",
         when: "The relying party's hash is not SHA-256 of the rp id.",
-        advice: "The options named another rp id than the one to be judged by, or none, and then the page's host counts. Give both the same rp id.",
+        advice: "The options named another rp id than the site's, or none, in which case the page's host counts. Use the same rp id in both.",
     },
     Words {
         number: 9,
@@ -119,7 +119,7 @@ pub(crate) static REGISTRATION: [Words; 19] = [
         asks: "Is the key's algorithm one that the site offered?",
         text: "the key's algorithm was not offered",
         when: "The key's algorithm was not offered.",
-        advice: "Keep with the session which algorithms pubKeyCredParams offered, and offer this key's if the site takes it.",
+        advice: "Keep with the session which algorithms pubKeyCredParams offered, and offer this key's if the site accepts it.",
     },
     Words {
         number: 19,
@@ -127,8 +127,8 @@ pub(crate) static REGISTRATION: [Words; 19] = [
         standard: "this product's",
         asks: "Is the id that the client names the one that the authenticator attests?",
         text: "the response's id is not the attested credential's",
-        when: "The client names another credential than the response attests: its `rawId`, where it is handed in, is another id.",
-        advice: "rawId was changed on its way, or belongs to another response. Hand on the response as one, as toJSON() gave it.",
+        when: "The client names another credential than the response attests: its `rawId`, where it is passed, is another id.",
+        advice: "rawId was changed on its way, or belongs to another response. Pass the response on as a whole, as toJSON() returned it.",
     },
     Words {
         number: 12,
@@ -137,16 +137,16 @@ pub(crate) static REGISTRATION: [Words; 19] = [
         asks: "Is the attestation statement of a known format?",
         text: "the attestation statement's format is unknown",
         when: "The format of the attestation statement is neither `none` nor `packed`. In Level 3 steps 12 to 14 take it as `none` where the session asked for no attestation.",
-        advice: "Ask for attestation: none. In Level 3 the statement then counts as none, whatever it is. Formats but none and packed are not taken.",
+        advice: "Ask for attestation: none. In Level 3 the statement then counts as none, whatever it is. Formats other than none and packed are not accepted.",
     },
     Words {
         number: 13,
         name: "BadStatement",
         standard: "7.1, 19",
-        asks: "Is the attestation statement what its format asks for?",
+        asks: "Does the attestation statement meet the rules of its format?",
         text: "the attestation statement is not valid",
         when: "The attestation statement is not what its format asks for.",
-        advice: "Ask for attestation: none, unless the site needs to know the authenticator's make. Statements with certificates are not taken.",
+        advice: "Ask for attestation: none, unless the site needs to know the authenticator's make. Statements with certificates are not accepted.",
     },
     Words {
         number: 14,
@@ -164,7 +164,7 @@ pub(crate) static REGISTRATION: [Words; 19] = [
         asks: "Is the credential's id still free?",
         text: "the credential is registered",
         when: "A credential with this id is registered, to anyone, retired or not.",
-        advice: "The visitor has this passkey already: let them sign in with it. List an account's passkeys in excludeCredentials, so that the authenticator makes none again.",
+        advice: "The visitor has this passkey already: let them sign in with it. List an account's passkeys in excludeCredentials, so that the authenticator does not make another.",
     },
     Words {
         number: 16,
@@ -186,7 +186,7 @@ pub(crate) static SIGN_IN: [Words; 18] = [
         asks: "Is a session open for this sign-in?",
         text: "the session is not open for sign-in",
         when: "The session is not open, or is one for registration.",
-        advice: "Begin again. A session answers one response and then ends; it also ends by time, or with the process that kept it. Check that the site finds the session that the visitor's cookie names.",
+        advice: "Begin again. A session answers one response and then ends; it also expires, and may end with the process that kept it. Check that the site finds the session that the visitor's cookie names.",
     },
     Words {
         number: 2,
@@ -195,7 +195,7 @@ pub(crate) static SIGN_IN: [Words; 18] = [
         asks: "Is the credential one that the session allows?",
         text: "the credential is not one that the session allows",
         when: "The session lists the credentials that may answer, and this is none of them.",
-        advice: "Another passkey than one of the account's answered. List all of the account's in allowCredentials and in the session, or list none.",
+        advice: "A passkey that is not the account's answered. List all of the account's passkeys in allowCredentials and in the session, or list none.",
     },
     Words {
         number: 3,
@@ -203,7 +203,7 @@ pub(crate) static SIGN_IN: [Words; 18] = [
         standard: "7.2, 7",
         asks: "Is a credential with this id registered, and not retired?",
         text: "no credential with this id is registered",
-        when: "No credential with this id is registered, or it is retired, or the one handed in has another id.",
+        when: "No credential with this id is registered, or it is retired, or the one passed has another id.",
         advice: "Look up the row by rawId. If there is none, the passkey was deleted here, or is another site's: tell the browser by signalUnknownCredential, and let the visitor use another.",
     },
     Words {
@@ -222,7 +222,7 @@ pub(crate) static SIGN_IN: [Words; 18] = [
         asks: "Can the client data be read, as JSON with a type, a challenge and an origin?",
         text: "the client data cannot be read",
         when: "The client data cannot be read.",
-        advice: "Hand on clientDataJSON as the browser made it: the same bytes, in base64url, neither parsed and written anew nor encoded twice.",
+        advice: "Pass clientDataJSON on as the browser made it: the same bytes, in base64url, neither parsed and rewritten nor encoded twice.",
     },
     Words {
         number: 6,
@@ -240,7 +240,7 @@ pub(crate) static SIGN_IN: [Words; 18] = [
         asks: "Is the challenge the one that this site gave?",
         text: "the challenge is not the session's",
         when: "The challenge is not the session's.",
-        advice: "Begin again: the response answers another session, or the challenge was encoded twice on its way to the page. Compare the two byte by byte. If visitors see this often, look at your logs for answers that were sent again.",
+        advice: "Begin again: the response answers another session, or the challenge was encoded twice on its way to the page. Compare the two byte by byte. If visitors see this often, look in your logs for responses that were sent twice.",
     },
     Words {
         number: 8,
@@ -249,7 +249,7 @@ pub(crate) static SIGN_IN: [Words; 18] = [
         asks: "Is the page's origin one of this site's?",
         text: "the origin is not the relying party's",
         when: "The origin is none of the relying party's.",
-        advice: "If the page is yours, add its origin, as the client data say it, to the site's origins: scheme, host and port, without a path. If it is not yours, this is what phishing looks like: add nothing.",
+        advice: "If the page is yours, add its origin, as the client data have it, to the site's origins: scheme, host and port, without a path. If it is not yours, this is what phishing looks like: add nothing.",
     },
     Words {
         number: 17,
@@ -258,7 +258,7 @@ pub(crate) static SIGN_IN: [Words; 18] = [
         asks: "Is the page in no other site's frame, unless the site allows frames?",
         text: "the page is in another site's frame",
         when: "In Level 3, `crossOrigin` is neither absent nor `false`, or there is a `topOrigin`, and the relying party names no page that may frame its own; or `crossOrigin` is no truth value.",
-        advice: "If another site may show yours in a frame, name the origin of its page among the top origins. Else send a frame-ancestors policy, so that none can.",
+        advice: "If another site may show yours in a frame, name the origin of its page among the top origins. Otherwise send a frame-ancestors policy, so that none can.",
     },
     Words {
         number: 18,
@@ -267,7 +267,7 @@ pub(crate) static SIGN_IN: [Words; 18] = [
         asks: "Is the page at the top one that may frame this site?",
         text: "the page at the top is none that the relying party names",
         when: "In Level 3, `crossOrigin` is `true` or there is a `topOrigin`, and it is none of the pages that may frame the relying party's.",
-        advice: "If the page at the top may frame yours, add its origin, as the client data say it, to the top origins.",
+        advice: "If the page at the top may frame yours, add its origin, as the client data have it, to the top origins.",
     },
     Words {
         number: 9,
@@ -276,7 +276,7 @@ pub(crate) static SIGN_IN: [Words; 18] = [
         asks: "Is token binding left unused?",
         text: "token binding is used",
         when: "Token binding is used.",
-        advice: "No browser of today uses token binding. Take the Level 3 profile, which does not look at it, or look at what stands between the browser and the site.",
+        advice: "No browser uses token binding today. Choose the Level 3 profile, which ignores it, or check what stands between the browser and the site.",
     },
     Words {
         number: 10,
@@ -285,7 +285,7 @@ pub(crate) static SIGN_IN: [Words; 18] = [
         asks: "Can the authenticator data be read, and do they attest no new credential?",
         text: "the authenticator data cannot be read, or they attest a credential",
         when: "The bytes are no authenticator data, or they attest a credential.",
-        advice: "Hand on authenticatorData as the browser made it. If it is whole, the authenticator writes what the profile does not take: the strict one takes no extensions.",
+        advice: "Pass authenticatorData on as the browser made it. If it is unchanged, the authenticator uses something that the profile does not accept: the strict one accepts no extensions.",
     },
     Words {
         number: 11,
@@ -294,7 +294,7 @@ pub(crate) static SIGN_IN: [Words; 18] = [
         asks: "Did the authenticator answer for this rp id?",
         text: "the authenticator data are for another relying party",
         when: "The relying party's hash is not SHA-256 of the rp id.",
-        advice: "The options named another rp id than the one to be judged by, or none, and then the page's host counts. Give both the same rp id.",
+        advice: "The options named another rp id than the site's, or none, in which case the page's host counts. Use the same rp id in both.",
     },
     Words {
         number: 12,
@@ -321,7 +321,7 @@ pub(crate) static SIGN_IN: [Words; 18] = [
         asks: "Did the registered key sign these bytes?",
         text: "the signature is not valid",
         when: "The signature is not valid over the authenticator data as they came, then the hash of the client data.",
-        advice: "Compare the row's key with the one that was registered, and hand on authenticatorData, clientDataJSON and signature as they came. If all are right, somebody else answered.",
+        advice: "Compare the row's key with the one that was registered, and pass authenticatorData, clientDataJSON and signature on as they came. If all are right, somebody else answered.",
     },
     Words {
         number: 15,

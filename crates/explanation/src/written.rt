@@ -1,11 +1,12 @@
-//! What is told of a case, as lines or as JSON.
+//! An explanation, as lines or as JSON.
 
-use crate::case::Kind;
 use crate::explaining::{Explained, Verdict};
+use crate::lines::Line;
+use crate::numbers::numbers_of;
 use crate::shown::{Shown, ShownStep, Words};
 use base64::engine::general_purpose::URL_SAFE_NO_PAD;
-use clientdata::quoted_text;
-use cose::KeyView;
+use decoded::{put_json, put_null_or_text};
+use explanation_case::Kind;
 use std::alloc::{AllocError, Global};
 use std::fmt::Write;
 use verification::VerifiedSignature;
@@ -14,20 +15,18 @@ use verification::VerifiedSignature;
 const NOT_KNOWN: &str =
     "the signature is not verified here: verify it, and add signature_verified, true or false";
 
-impl Kind {
-    fn name(self) -> &'static str {
-        match self {
-            Kind::Registration => "registration",
-            Kind::SignIn => "sign-in",
-        }
+fn kind_name(kind: Kind) -> &'static str {
+    match kind {
+        Kind::Registration => "registration",
+        Kind::SignIn => "sign-in",
     }
+}
 
-    /// The letter before the numbers of its refusals.
-    fn letter(self) -> &'static str {
-        match self {
-            Kind::Registration => "G",
-            Kind::SignIn => "W",
-        }
+/// The letter before the numbers of a kind's refusals.
+fn letter_of(kind: Kind) -> &'static str {
+    match kind {
+        Kind::Registration => "G",
+        Kind::SignIn => "W",
     }
 }
 
@@ -41,39 +40,11 @@ impl Verdict {
     }
 }
 
-/// The numbers of a public key: its COSE number, x and y.
-#[derive(Clone, Copy, Drop)]
-struct Numbers<'a> {
-    algorithm: &'static str,
-    x: &'a [u8],
-    y: &'a [u8],
-}
-
-fn numbers_of<'a>(key: &'a KeyView<'a>) -> Numbers<'a> {
-    match key {
-        KeyView::Es256 { x, y } => Numbers {
-            algorithm: "-7",
-            x,
-            y,
-        },
-        KeyView::EdDsa { x } => Numbers {
-            algorithm: "-8",
-            x,
-            y: &[],
-        },
-        KeyView::Rs256(rsa) => Numbers {
-            algorithm: "-257",
-            x: rsa.n,
-            y: rsa.e,
-        },
-    }
-}
-
 impl Explained {
     /// The letter before the numbers of refusals.
     fn letter(&self) -> &'static str {
         match self.kind {
-            Some(kind) => kind.letter(),
+            Some(kind) => letter_of(kind),
             None => "",
         }
     }
@@ -91,7 +62,7 @@ impl Explained {
 /// Writes the first line.
 fn write_head(alloc: Global, told: &Explained, out: &mut String) -> Result<(), AllocError> {
     let kind = match told.kind {
-        Some(kind) => kind.name(),
+        Some(kind) => kind_name(kind),
         None => "response",
     };
     let verdict = told.verdict().name();
@@ -135,9 +106,21 @@ fn write_asked(
     }
     write_hex(alloc, "message", &asked.message, out)?;
     write_hex(alloc, "signature", &asked.signature, out)?;
-    out.push_str(
-        "                  each step after this one is told as it is if the signature is valid\n",
-    )
+    out.push_str("                  the steps after this one are shown as for a valid signature\n")
+}
+
+/// Writes what a step looks at, a line each.
+fn write_lines(lines: &[Line], out: &mut String) -> Result<(), AllocError> {
+    for line in lines {
+        let of = line.of.as_str();
+        write!(out, "                  {of}: ")?;
+        match (line.text.as_deref(), line.hex.as_deref()) {
+            (Some(text), Some(digits)) => writeln!(out, "{text}, in bytes {digits}")?,
+            (Some(one), None) | (None, Some(one)) => writeln!(out, "{one}")?,
+            (None, None) => writeln!(out)?,
+        }
+    }
+    Ok(())
 }
 
 /// Writes a step's line, and what to do if it fails or is not judged.
@@ -152,6 +135,7 @@ fn write_step(
     let (asks, standard) = (step.words.asks, step.words.standard);
     writeln!(out, "{state:<13}{code:<5}{asks} ({standard})")?;
     if step.shown == Shown::Failed {
+        write_lines(&step.compared, out)?;
         let (when, advice) = (step.words.when, step.words.advice);
         writeln!(out, "                  it is refused where: {when}")?;
         writeln!(out, "                  what to do: {advice}")?;
@@ -162,32 +146,13 @@ fn write_step(
     }
 }
 
-/// Appends what is told as lines: the kind and the verdict, then each step.
+/// Appends an explanation as lines: the kind and the verdict, then each step.
 pub fn write_text(alloc: Global, told: &Explained, out: &mut String) -> Result<(), AllocError> {
     write_head(alloc, told, out)?;
     for step in &told.steps {
         write_step(alloc, told, step, out)?;
     }
     Ok(())
-}
-
-/// Writes a member whose value is a text.
-fn put(alloc: Global, name: &str, text: &str, out: &mut String) -> Result<(), AllocError> {
-    let text = quoted_text(alloc, text)?;
-    write!(out, "\"{name}\":{text}")
-}
-
-/// Writes a member whose value is a text or null.
-fn put_or_null(
-    alloc: Global,
-    name: &str,
-    text: Option<&str>,
-    out: &mut String,
-) -> Result<(), AllocError> {
-    match text {
-        Some(text) => put(alloc, name, text, out),
-        None => write!(out, "\"{name}\":null"),
-    }
 }
 
 /// Writes a member whose value is bytes, in base64url.
@@ -205,7 +170,7 @@ fn put_name(
 ) -> Result<(), AllocError> {
     let (number, name) = (words.number, words.name);
     write!(out, "{{\"number\":{number},\"code\":\"{letter}{number}\",")?;
-    put(alloc, "name", name, out)
+    put_null_or_text(alloc, "name", Some(name), out)
 }
 
 /// Writes the refusal.
@@ -220,8 +185,22 @@ fn put_refusal(alloc: Global, told: &Explained, out: &mut String) -> Result<(), 
     out.push_str("\"refusal\":")?;
     put_name(alloc, told.letter(), words, out)?;
     out.push(',')?;
-    put(alloc, "text", words.text, out)?;
+    put_null_or_text(alloc, "text", Some(words.text), out)?;
     out.push('}')
+}
+
+/// Writes what a step looks at.
+fn put_lines(alloc: Global, lines: &[Line], out: &mut String) -> Result<(), AllocError> {
+    for (i, line) in lines.iter().enumerate() {
+        out.push_str(if i == 0 { "{" } else { ",{" })?;
+        put_null_or_text(alloc, "of", Some(line.of.as_str()), out)?;
+        out.push(',')?;
+        put_null_or_text(alloc, "text", line.text.as_deref(), out)?;
+        out.push(',')?;
+        put_null_or_text(alloc, "hex", line.hex.as_deref(), out)?;
+        out.push('}')?;
+    }
+    Ok(())
 }
 
 /// Writes a step.
@@ -243,9 +222,11 @@ fn put_step(
     ];
     for (name, text) in members {
         out.push(',')?;
-        put(alloc, name, text, out)?;
+        put_null_or_text(alloc, name, Some(text), out)?;
     }
-    out.push('}')
+    out.push_str(",\"bytes\":[")?;
+    put_lines(alloc, &step.compared, out)?;
+    out.push_str("]}")
 }
 
 /// Writes the signature that is not judged.
@@ -264,12 +245,12 @@ fn put_asked(alloc: Global, asked: &VerifiedSignature, out: &mut String) -> Resu
 /// Writes the members before the steps.
 fn put_head(alloc: Global, told: &Explained, out: &mut String) -> Result<(), AllocError> {
     out.push('{')?;
-    put_or_null(alloc, "kind", told.kind.map(|kind| kind.name()), out)?;
+    put_null_or_text(alloc, "kind", told.kind.map(kind_name), out)?;
     out.push(',')?;
-    put(alloc, "verdict", told.verdict().name(), out)?;
+    put_null_or_text(alloc, "verdict", Some(told.verdict().name()), out)?;
     out.push(',')?;
     let reason = told.reason(alloc)?;
-    put_or_null(alloc, "fault", reason.as_deref(), out)?;
+    put_null_or_text(alloc, "fault", reason.as_deref(), out)?;
     out.push(',')?;
     put_refusal(alloc, told, out)
 }
@@ -283,7 +264,7 @@ fn put_steps(alloc: Global, told: &Explained, out: &mut String) -> Result<(), Al
     Ok(())
 }
 
-/// Appends what is told as one object of JSON, a line for each step.
+/// Appends an explanation as one object of JSON, a line for each step.
 pub fn write_json(alloc: Global, told: &Explained, out: &mut String) -> Result<(), AllocError> {
     put_head(alloc, told, out)?;
     out.push_str(",\"signature\":")?;
@@ -291,6 +272,10 @@ pub fn write_json(alloc: Global, told: &Explained, out: &mut String) -> Result<(
         Some(asked) => put_asked(alloc, asked, out)?,
         None => out.push_str("null")?,
     }
+    out.push(',')?;
+    put_json("credential", told.stored.as_deref().unwrap_or("null"), out)?;
+    out.push(',')?;
+    put_json("decoded", told.contents.as_deref().unwrap_or("null"), out)?;
     out.push_str(",\"steps\":[")?;
     put_steps(alloc, told, out)?;
     out.push_str("]}\n")

@@ -13,7 +13,7 @@ IsChecked bytes kind digits origin cross_origin verified =
     (challenge : List ℕ) × IsRead digits (Some challenge)
     × (IsTrue verified ↔ IsVerified bytes (client_data_front kind challenge origin cross_origin))
 
--- why nothing is checked; want of memory says nothing
+-- why nothing is checked; running out of memory says nothing
 abbrev pub IsUnchecked : List ℕ → CheckFault → Type 0
 IsUnchecked digits BadHex = IsRead digits None
 IsUnchecked digits Memory = Unit {0}

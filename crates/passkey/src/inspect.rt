@@ -85,7 +85,7 @@ fn write_pairs(
     out.push('}')
 }
 
-/// The fault that a refusal with a number is told as.
+/// The fault that a refusal with a number is reported as.
 fn refused(
     alloc: Global,
     number: Option<u8>,

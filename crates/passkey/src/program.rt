@@ -8,7 +8,8 @@ use crate::inspect::{InspectFault, inspect};
 use crate::replay::{ScriptEnd, run_script};
 use crate::script::Fault;
 use clap::error::ErrorKind;
-use explanation::{CaseError, Explained, Verdict, write_json, write_text};
+use explanation::{Explained, Verdict, write_json, write_text};
+use explanation_case::CaseError;
 use json_lines::VERSION;
 use std::alloc::{AllocError, Global};
 use std::io;
@@ -17,7 +18,7 @@ use std::io::{Read, Write};
 /// The most bytes of standard input.
 pub const MAX_INPUT: usize = 16_777_216;
 
-/// Why there is no input.
+/// Why no input was read.
 #[derive(Drop)]
 enum InputFault {
     TooLong,
@@ -120,7 +121,7 @@ fn tell<O: Write, E: Write>(verified: bool, out: &mut O, err: &mut E) -> u8 {
     }
 }
 
-/// What is told of a case, in JSON or as lines.
+/// What is answered of a case, in JSON or as lines.
 fn explained_text(alloc: Global, json: bool, told: &Explained) -> Result<String, AllocError> {
     let mut text = String::new(alloc);
     if json {
@@ -131,7 +132,7 @@ fn explained_text(alloc: Global, json: bool, told: &Explained) -> Result<String,
     Ok(text)
 }
 
-/// Prints what is told of a case, and answers the status of its verdict.
+/// Prints what is answered of a case, and answers the status of its verdict.
 fn print_explained<O: Write, E: Write>(
     alloc: Global,
     json: bool,
@@ -190,7 +191,7 @@ fn asks_version(arguments: &[&str]) -> bool {
 /// 0 where all went well; `--version` alone prints the version. Faults go to `err` and are found in this order: arguments that clap refuses (status
 /// 2, also for help), input of more than `MAX_INPUT` bytes (`input too long`, 2), a read that fails (`read
 /// failed`, 4), then those of the subcommand. The status of `explain` is 0 where a response is accepted, 1 where it is
-/// refused, 2 where it is not judged. Want of memory is `out of memory`, 3; a write to `out` that
+/// refused, 2 where it is not judged. Running out of memory is `out of memory`, 3; a write to `out` that
 /// fails is `write failed`, 5, and what went out is a beginning of the whole. Where `err` fails too, the
 /// status is the same.
 pub fn run<'a, R: Read, O: Write, E: Write>(

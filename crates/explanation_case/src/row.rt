@@ -27,7 +27,7 @@ const MEMBERS: [&str; 10] = [
 
 /// A credential as a site has it.
 #[derive(Drop)]
-pub(crate) struct CredentialRow {
+pub struct CredentialRow {
     id: Vec<u8>,
     user: Vec<u8>,
     key: CoseKey,
@@ -37,7 +37,8 @@ pub(crate) struct CredentialRow {
 }
 
 impl CredentialRow {
-    pub(crate) fn view(&self) -> RowView<'_> {
+    /// The row, lent.
+    pub fn view(&self) -> RowView<'_> {
         RowView {
             id: self.id.as_slice(),
             user: self.user.as_slice(),

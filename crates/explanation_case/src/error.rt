@@ -1,7 +1,7 @@
 //! Why a case is not judged.
 
 ghost use Rattle.std.specs.Prelude.{◌≡◌};
-ghost use Rattle.explanation.specs.declared.error.CaseError.TheVariants as errors;
+ghost use Rattle.explanation_case.specs.declared.error.CaseError.TheVariants as errors;
 
 use json_lines::LineError;
 use std::alloc::{AllocError, AllocFailed};

@@ -31,7 +31,7 @@ pub enum Kind {
 }
 
 /// The value that the bytes are in JSON.
-pub(crate) fn value_of(alloc: Global, input: &[u8]) -> Result<Value, CaseError> {
+pub fn value_of(alloc: Global, input: &[u8]) -> Result<Value, CaseError> {
     let Ok(text) = str::from_utf8(input) else {
         return Err(CaseError::NotUtf8);
     };
@@ -78,7 +78,7 @@ pub(crate) fn check_case(case: &Value) -> Result<(), CaseError> {
 }
 
 /// The inner part of a case's response, and what it answers.
-pub(crate) fn parts_of(case: &Value) -> Option<(&Value, Kind)> {
+pub fn parts_of(case: &Value) -> Option<(&Value, Kind)> {
     let parts = case.get("response")?.get("response")?;
     if parts.get("attestationObject").is_some() {
         return Some((parts, Kind::Registration));
@@ -89,8 +89,8 @@ pub(crate) fn parts_of(case: &Value) -> Option<(&Value, Kind)> {
     None
 }
 
-/// The id of a response, after what the standard fixes of it beside its parts (WebAuthn Level 3, section 5.1).
-pub(crate) fn raw_id(alloc: Global, response: &Value) -> Result<Vec<u8>, CaseError> {
+/// That a response has what the standard fixes of it beside its parts (WebAuthn Level 3, section 5.1).
+pub(crate) fn check_response(response: &Value) -> Result<(), CaseError> {
     if text(response, "id")? != text(response, "rawId")? {
         return Err(CaseError::OtherId);
     }
@@ -99,12 +99,9 @@ pub(crate) fn raw_id(alloc: Global, response: &Value) -> Result<Vec<u8>, CaseErr
     }
     text_or(response, "authenticatorAttachment", "")?;
     match response.get("clientExtensionResults") {
-        Some(results) if !results.is_object() => {
-            return Err(CaseError::BadForm("clientExtensionResults"));
-        }
-        _ => {}
+        Some(results) if !results.is_object() => Err(CaseError::BadForm("clientExtensionResults")),
+        _ => Ok(()),
     }
-    Ok(bytes(alloc, response, "rawId")?)
 }
 
 /// The texts of a list.
@@ -131,6 +128,11 @@ fn profile_named(name: &str) -> Option<Profile> {
         "level3" => Some(Profile::Level3),
         _ => None,
     }
+}
+
+/// The name of a case's profile.
+pub fn profile_name(case: &Value) -> &str {
+    text_or(case, "profile", "level3").unwrap_or("")
 }
 
 /// Whether a byte may stand in a domain as browsers write it.
