@@ -121,6 +121,16 @@ def acts(name, browser, port, pictures):
         clicked(browser, "sign-in", "W3 UnknownCredential: no credential with this id is registered"))
 
 
+def fills(name, browser, page):
+    """The page offers autofill while nobody is signed in: Chromium's virtual authenticator takes it at once if it is the machine's own."""
+    key = browser.authenticator(transport="internal")
+    browser.open(page)
+    browser.run("document.getElementById('name').value = 'eve'")
+    see(f"{name}: a passkey for autofill", clicked(browser, "register", "registered"))
+    see(f"{name}: autofill signs in", clicked(browser, "sign-out", "signed in"))
+    browser.without(key)
+
+
 def acts_over_lines(name, browser):
     """Everything that a visitor of the sample over lines does."""
     for button in ("registration", "sign_in"):
@@ -159,13 +169,15 @@ def tried(name, install, file, path, port, run, pictures):
         see(f"{name}: it runs", is_up(page))
         browser = Chromium(port + 1)
         browser.open(page)
-        key = browser.authenticator(transport="internal")
+        key = browser.authenticator(transport="usb")
         if has_core:
             acts(name, browser, port, pictures)
         else:
             acts_over_lines(name, browser)
         print(f"        {time.time() - began:.1f} s from an empty folder")
         browser.without(key)
+        if has_core:
+            fills(name, browser, page)
         if pictures:
             prompted(port, pictures / "prompt.png")
     finally:

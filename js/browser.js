@@ -11,13 +11,27 @@ function textOf(buffer) {
 }
 
 const listed = (list = []) => list.map((one) => ({ ...one, id: bytesOf(one.id) }));
+const mapped = (value, change) => Object.fromEntries(Object.entries(value).map(([name, one]) => [name, change(one)]));
+
+// The inputs of extensions, some of which are bytes.
+function inputsOf({ prf, largeBlob, ...rest }) {
+  const made = { ...rest };
+  if (prf !== undefined) {
+    made.prf = { ...prf };
+    if (prf.eval !== undefined) made.prf.eval = mapped(prf.eval, bytesOf);
+    if (prf.evalByCredential !== undefined) made.prf.evalByCredential = mapped(prf.evalByCredential, (inputs) => mapped(inputs, bytesOf));
+  }
+  if (largeBlob !== undefined) made.largeBlob = largeBlob.write === undefined ? largeBlob : { ...largeBlob, write: bytesOf(largeBlob.write) };
+  return made;
+}
 
 // The options of a kind, Creation or Request.
 function optionsOf(kind, options) {
   if (!isSupported()) throw new DOMException("this browser has no passkeys", "NotSupportedError");
   const parse = `parse${kind}OptionsFromJSON`;
   if (PublicKeyCredential[parse] !== undefined) return PublicKeyCredential[parse](options);
-  const { user, excludeCredentials, allowCredentials } = options, own = { ...options, challenge: bytesOf(options.challenge) };
+  const { user, excludeCredentials, allowCredentials, extensions } = options, own = { ...options, challenge: bytesOf(options.challenge) };
+  if (extensions !== undefined) own.extensions = inputsOf(extensions);
   if (kind === "Request") return { ...own, allowCredentials: listed(allowCredentials) };
   return { ...own, user: { ...user, id: bytesOf(user.id) }, excludeCredentials: listed(excludeCredentials) };
 }
@@ -38,13 +52,15 @@ function responseOf(credential) {
   return { id, rawId: id, type, authenticatorAttachment: authenticatorAttachment ?? undefined, response, clientExtensionResults };
 }
 
-let pending = null;
+const anotherBegan = () => new DOMException("another call began", "AbortError");
+let pending = null, begun = 0;
 
 // A browser takes one call at a time: a new one ends the one that waits, such as that of autofill.
 async function credentialBy(call, publicKey, { signal, mediation }) {
   const controller = new AbortController(), end = () => controller.abort(signal.reason);
-  pending?.abort(new DOMException("another call began", "AbortError"));
+  pending?.abort(anotherBegan());
   pending = controller;
+  begun += 1;
   if (signal?.aborted) end();
   signal?.addEventListener("abort", end);
   try {
@@ -73,13 +89,16 @@ export const signalUserDetails = (told) => signalled("signalCurrentUserDetails",
 
 export async function autofill(begin, { signal, milliseconds = 240_000 } = {}) {
   for (;;) {
-    const controller = new AbortController(), end = () => controller.abort(signal.reason);
+    const controller = new AbortController(), end = () => controller.abort(signal.reason), before = begun;
     let isOld = false;
     const timer = setTimeout(() => ((isOld = true), controller.abort()), milliseconds);
     signal?.addEventListener("abort", end);
     if (signal?.aborted) end();
     try {
-      return await signIn(await begin(), { signal: controller.signal, mediation: "conditional" });
+      const options = await begin();
+      // What began while the site answered goes on: autofill ends no call of the visitor's.
+      if (begun !== before) throw anotherBegan();
+      return await signIn(options, { signal: controller.signal, mediation: "conditional" });
     } catch (error) {
       if (!isOld) throw error;
     } finally {

@@ -28,7 +28,7 @@ function siteFiles() {
   return `// Written by prepare.mjs.\nexport const FILES = ${JSON.stringify(files)};\nexport const MODELS = Object.freeze(${JSON.stringify(models)});\n`;
 }
 
-const MODULES = ["errors", "fastify", "forms", "http", "index", "keeping", "koa", "layout", "limits", "memory", "metrics", "module", "node_signatures", "options", "program", "rate_limit",
+const MODULES = ["errors", "extensions", "fastify", "forms", "http", "index", "keeping", "koa", "layout", "limits", "memory", "metrics", "module", "node_signatures", "options", "program", "rate_limit",
                  "records", "server", "shared", "site", "site_accounts", "site_acts", "site_core", "site_fetch", "site_files", "site_models", "site_node", "site_requests", "site_stores",
                  "simplewebauthn", "sql", "sql_visitors", "stored", "verdicts", "workers"];
 writeFileSync(here("site_files.js"), siteFiles());
@@ -37,7 +37,7 @@ rmSync(here("cjs"), { recursive: true, force: true });
 mkdirSync(here("cjs"));
 for (const name of MODULES) writeFileSync(here(`cjs/${name}.cjs`), inCommonJs(readFileSync(here(`${name}.js`), "utf8"), commonName));
 writeFileSync(here("cjs/index.d.cts"), typesInCommonJs());
-for (const name of ["sql", "site", "http", "koa", "fastify", "simplewebauthn"])
+for (const name of ["sql", "site", "http", "koa", "fastify", "simplewebauthn", "extensions"])
   writeFileSync(here(`cjs/${name}.d.cts`), readFileSync(here(`${name}.d.ts`), "utf8").replace(/"\.\/(\w+)\.js"/g, '"./$1.cjs"'));
 copyFileSync(here("../dist/portable/passkey.wasm"), here("passkey.wasm"));
 copyFileSync(here("../LICENSE"), here("LICENSE"));

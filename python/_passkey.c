@@ -4,6 +4,7 @@
  * have the interpreter while a proved call runs. There is no state but the module's own. */
 #define PY_SSIZE_T_CLEAN
 #include <Python.h>
+#include <stdio.h>
 #include <string.h>
 #include "passkey.h"
 
@@ -311,10 +312,16 @@ static PyMethodDef methods[] = {
     {"assertion", assertion, METH_VARARGS, NULL}, {"registration", registration, METH_VARARGS, NULL}, {"parts", parts, METH_VARARGS, NULL},
     {"refusal_text", refusal_text, METH_VARARGS, NULL}, {"is_canonical", is_canonical, METH_VARARGS, NULL},
     {"key_from_cose", key_from_cose, METH_VARARGS, NULL}, {"key_to_cose", key_to_cose, METH_VARARGS, NULL}, {NULL, NULL, 0, NULL}};
+/* From CPython 3.12 on a module says that interpreters may have a lock each: Py_mod_multiple_interpreters, which is 3, with
+ * Py_MOD_PER_INTERPRETER_GIL_SUPPORTED, which is 2. The stable ABI of 3.9 has no names for them, and earlier versions refuse them. */
 static PyModuleDef_Slot slots[] = {{Py_mod_exec, (void *)prepare}, {0, NULL}};
+static PyModuleDef_Slot slots_3_12[] = {{Py_mod_exec, (void *)prepare}, {3, (void *)2}, {0, NULL}};
 static struct PyModuleDef definition = {PyModuleDef_HEAD_INIT, "garvoeng._passkey", NULL, sizeof(module_state), methods, slots, NULL, NULL, NULL};
+static struct PyModuleDef definition_3_12 = {PyModuleDef_HEAD_INIT, "garvoeng._passkey", NULL, sizeof(module_state), methods, slots_3_12, NULL, NULL, NULL};
 
 PyMODINIT_FUNC PyInit__passkey(void)
 {
-    return PyModuleDef_Init(&definition);
+    int major = 0, minor = 0;
+    if (sscanf(Py_GetVersion(), "%d.%d", &major, &minor) != 2) return PyErr_Format(PyExc_ImportError, "the version of CPython is not known");
+    return PyModuleDef_Init(major == 3 && minor < 12 ? &definition : &definition_3_12);
 }

@@ -10,7 +10,7 @@ MODULES = {
     "garvoeng.sql": ("sql", "sql_rows"), "garvoeng.web": ("web/__init__", "web/accounts", "web/stores", "web/requests", "web/models"),
     "garvoeng.flask": ("flask",), "garvoeng.starlette": ("starlette",), "garvoeng.aiohttp": ("aiohttp",),
     "garvoeng.django": ("django/__init__", "django/accounts", "django/visitors", "django/backends", "django/models", "django/rest"),
-    "garvoeng.client": ("client", "client_program", "hid"), "garvoeng.explain": ("explain",), "garvoeng.forms": ("forms",), "garvoeng.move": ("move", "move_site"), "garvoeng.signatures": ("signatures",),
+    "garvoeng.client": ("client", "client_program", "hid"), "garvoeng.explain": ("explain",), "garvoeng.extensions": ("extensions",), "garvoeng.forms": ("forms",), "garvoeng.move": ("move", "move_site"), "garvoeng.signatures": ("signatures",),
 }
 
 

@@ -43,6 +43,20 @@ test("mediation is handed on, at a registration too", async () => {
   assert.deepEqual(asked, [["create", "conditional", true], ["create", undefined, true], ["get", "silent", true], ["get", undefined, true]]);
 });
 
+test("inputs of extensions in a browser without JSON calls", async () => {
+  let given;
+  browser(async (options) => ((given = options.publicKey.extensions), made));
+  const bytes = (...values) => Uint8Array.from(values), extensions = { credProps: true, prf: { eval: { first: "AQ", second: "Ag" } }, largeBlob: { support: "required" } };
+  await register({ ...CREATION, extensions });
+  assert.deepEqual(given, { credProps: true, prf: { eval: { first: bytes(1), second: bytes(2) } }, largeBlob: { support: "required" } });
+  await signIn({ ...REQUEST, extensions: { prf: { evalByCredential: { AA: { first: "-_8" } } }, largeBlob: { write: "Aw" } } });
+  assert.deepEqual(given, { prf: { evalByCredential: { AA: { first: bytes(251, 255) } } }, largeBlob: { write: bytes(3) } });
+  await signIn({ ...REQUEST, extensions: { prf: {}, appid: "https://localhost" } });
+  assert.deepEqual(given, { prf: {}, appid: "https://localhost" });
+  await signIn(REQUEST);
+  assert.equal(given, undefined);
+});
+
 test("what authenticators are told, where the browser has that", async () => {
   const told = { rpId: "localhost" }, calls = [["signalUnknownCredential", signalUnknownCredential], ["signalAllAcceptedCredentials", signalAllAccepted], ["signalCurrentUserDetails", signalUserDetails]], heard = [];
   for (const [, call] of calls) assert.equal(await call(told), false, "no passkeys");
@@ -81,6 +95,17 @@ test("autofill asks anew for options before they are old, and ends by its signal
   await assert.rejects(autofill(begin), { name: "NotAllowedError" });
   globalThis.setTimeout = timeout;
   assert.deepEqual(waited, [240_000], "before the 300 seconds of a session are over");
+});
+
+test("autofill ends no call that began while the site answered", async () => {
+  const asked = browser(async (options) => {
+    await sleep(40);
+    options.signal.throwIfAborted();
+    return made;
+  });
+  const waits = autofill(async () => (await sleep(20), REQUEST)), signs = signIn(REQUEST);
+  await assert.rejects(waits, { name: "AbortError" });
+  assert.deepEqual([await signs, asked], [{ id: "AQ" }, [["get", undefined, true]]]);
 });
 
 test("the page begins anew where the session of its autofill had ended", async () => {

@@ -3,6 +3,7 @@ import {
   AuthenticationResponseJSON, BadInput, Credential, NoMemory, PublicKeyCredentialCreationOptionsJSON, PublicKeyCredentialRequestOptionsJSON, Refused, RegistrationResponseJSON, Server,
   SignInSession, fromText, toText,
 } from "garvoeng";
+import { ExtensionResults, credProps, prf, resultsOf } from "garvoeng/extensions";
 
 const table = new Map<string, Credential>();
 const server: Server = new Server("example.com", ["https://example.com"], { rpName: "A site", verify: async () => true });
@@ -37,3 +38,8 @@ server.authenticateBegin({ userVerification: "yes" });
 server.registerBegin("account 7", "name");
 // @ts-expect-error: a session of a registration is none of a sign-in
 server.authenticateComplete(server.registerBegin(new Uint8Array(1), "name").session, {}, { credential: () => null });
+
+export function secretOf(response: AuthenticationResponseJSON): Uint8Array | null {
+  const results: ExtensionResults = resultsOf(response), extensions: { prf: object; credProps: boolean } = { ...credProps(), ...prf(fromText("AA")) };
+  return extensions.credProps ? results.prfFirst : null;
+}

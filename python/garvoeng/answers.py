@@ -23,7 +23,7 @@ def kind_of(value: Any) -> str:
 
 def refuse(what: str, said: Any, wanted: str, awaited_in: str = "the call whose name ends in _async") -> NoReturn:
     """Raises TypeError. A coroutine is closed, so that nobody is warned that it was never awaited."""
-    advice = f"; a function that is awaited belongs into {awaited_in}" if awaited_in and inspect.isawaitable(said) else ""
+    advice = f"; a function that is awaited belongs in {awaited_in}" if awaited_in and inspect.isawaitable(said) else ""
     if inspect.iscoroutine(said):
         said.close()
     raise TypeError(f"{what} answered {kind_of(said)}, and not {wanted}{advice}")
@@ -78,9 +78,14 @@ async def in_thread(call: Callable[..., Answered], *words: Any, **named: Any) ->
     return await asyncio.to_thread(_called, asyncio.get_running_loop(), partial(call, *words, **named))
 
 
+def loop_of_call() -> Optional[asyncio.AbstractEventLoop]:
+    """The loop that waits for this call, within `in_thread`."""
+    return _LOOP.get()
+
+
 def waiting(verify: Verify) -> Verify:
     """`verify` in the form that a call takes: within `in_thread`, one that waits for the loop."""
-    loop = _LOOP.get()
+    loop = loop_of_call()
     if loop is None:
         return verify
     waits: Verify = partial(_waited, loop, verify)

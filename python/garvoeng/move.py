@@ -1,8 +1,8 @@
 """Moves credentials into the tables of `garvoeng.sql`, and out of them:
 
-    python -m garvoeng.move fido2|py_webauthn DATABASE < ROWS    from the rows of another library
-    python -m garvoeng.move site FILE DATABASE                   from a site's file, which `passkey-site` keeps
-    python -m garvoeng.move to-site DATABASE FILE                back into a site's file
+    python -m garvoeng.move fido2|py_webauthn|simplewebauthn DATABASE < ROWS    from the rows of another library
+    python -m garvoeng.move site FILE DATABASE                                  from a site's file, which `passkey-site` keeps
+    python -m garvoeng.move to-site DATABASE FILE                               back into a site's file
 
 DATABASE is a SQLite file or the address of a PostgreSQL database. FILE is a file that no process uses, or a backup. Sign-in counters,
 retirement, times and transports are moved; open sessions are not. For `to-site`, `passkey-site --no-sums` must have made the file for the
@@ -10,9 +10,10 @@ same rp id.
 
 ROWS has a line of JSON for each row; bytes are base64url text. For python-fido2: `user`, the user handle, `credential_data`, the bytes of
 `AttestedCredentialData`, and `counter`. For py_webauthn: `user`, and the members of `VerifiedRegistration`: `credential_id`,
-`credential_public_key`, `sign_count`, `credential_device_type`, `credential_backed_up`. Both may have `transports`. Each row is moved by
-itself, and one that is there already is left as it is, so you can repeat the command. A row that is not moved is reported by its line; then
-the status is 1."""
+`credential_public_key`, `sign_count`, `credential_device_type`, `credential_backed_up`. For SimpleWebAuthn: `webauthnUserID`, `id`,
+`publicKey`, `counter`, `deviceType`, `backedUp`. Each may have `transports`, and `account`, the primary key of a Django user: then
+`garvoeng_account` gets the user's handle. Each row is moved by itself, and one that is there already is left as it is, so you can repeat the
+command. A row that is not moved is reported by its line; then the status is 1."""
 from __future__ import annotations
 
 import json
@@ -26,6 +27,7 @@ from .limits import check_credential, check_id, check_user
 from .records import Credential
 from .server import Server
 from .sql import SqlServer
+from .sql_rows import Rows
 
 Moved = Tuple[Credential, Optional[bool], Optional[bytes]]
 
@@ -65,7 +67,31 @@ def of_py_webauthn(row: Mapping[str, Any]) -> Moved:
     return credential, backed_up, None
 
 
-READERS: Dict[str, Callable[[Mapping[str, Any]], Moved]] = {"fido2": of_fido2, "py_webauthn": of_py_webauthn}
+def of_simplewebauthn(row: Mapping[str, Any]) -> Moved:
+    """A row from SimpleWebAuthn."""
+    kind, backed_up = row.get("deviceType"), row.get("backedUp")
+    if kind not in ("singleDevice", "multiDevice", None) or not isinstance(backed_up, (bool, type(None))):
+        raise BadInput("deviceType is singleDevice, multiDevice or null, and backedUp true, false or null")
+    credential = Credential.from_cose(_bytes(row, "id"), _bytes(row, "webauthnUserID"), _bytes(row, "publicKey"), _count(row, "counter"),
+                                      None if kind is None else kind == "multiDevice", transports=transports_in(row.get("transports")))
+    return credential, backed_up, None
+
+
+READERS: Dict[str, Callable[[Mapping[str, Any]], Moved]] = {"fido2": of_fido2, "py_webauthn": of_py_webauthn, "simplewebauthn": of_simplewebauthn}
+
+
+def link(rows: Rows, account: Any, handle: bytes) -> None:
+    """Gives a Django user a user handle, unless it has this one."""
+    if type(account) not in (int, str):
+        raise BadInput(f"account is the primary key of a user, a number or a text: not {account!r}")
+    listed = "SELECT name FROM sqlite_master WHERE type = 'table' AND name = 'garvoeng_account'" if rows.is_sqlite else "SELECT to_regclass('garvoeng_account')"
+    if not any(name for (name,) in rows.run(listed).fetchall()):
+        raise BadInput("the database has no table garvoeng_account: run the site's migrate first")
+    found = rows.run("SELECT user_id, handle FROM garvoeng_account WHERE user_id = ? OR handle = ?", account, handle).fetchall()
+    if not found:
+        rows.run("INSERT INTO garvoeng_account (user_id, handle) VALUES (?, ?)", account, handle)
+    elif [(str(user), bytes(own)) for user, own in found] != [(str(account), handle)]:
+        raise BadInput(f"the account {account} has another user handle, or another account has this one")
 
 
 def moved(reader: Callable[[Mapping[str, Any]], Moved], server: SqlServer, lines: TextIO, told: Callable[[str], None]) -> bool:
@@ -79,6 +105,9 @@ def moved(reader: Callable[[Mapping[str, Any]], Moved], server: SqlServer, lines
             credential, backed_up, aaguid = reader(row)
             check_user(credential.user)
             check_id(credential.id, "the credential id")
+            account = row.get("account")
+            if account is not None:
+                server.within(lambda rows: link(rows, account, credential.user))
             server.add(credential, backed_up=backed_up, aaguid=aaguid)
             counts["moved"] += 1
         except Refused:

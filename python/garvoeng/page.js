@@ -22,8 +22,30 @@ function lineOf({ id, name, model, created, used, retired }) {
   return line;
 }
 
+let waiting = null;
+
+// Offers the passkeys in the autofill of the name's input, until one is chosen, a button is pressed or the page is hidden: the browser keeps
+// the session that began last, which may be another tab's.
+async function fill() {
+  if (waiting !== null || document.hidden) return;
+  waiting = new AbortController();
+  try {
+    if ((await passkeys.autofill(waiting.signal)) === null) return;
+    element("said").textContent = element("sign-in").dataset.done;
+  } catch (error) {
+    if (error.name !== "AbortError") element("said").textContent = error.message;
+    return;
+  } finally {
+    waiting = null;
+  }
+  await show();
+}
+
+// The visitor's passkeys; if nobody is signed in, autofill.
 async function show() {
-  element("passkeys").replaceChildren(...(await passkeys.list().catch(() => [])).map(lineOf));
+  const found = await passkeys.list().catch(() => null);
+  element("passkeys").replaceChildren(...(found ?? []).map(lineOf));
+  if (found === null) fill();
 }
 
 function act(done, call) {
@@ -40,4 +62,5 @@ function act(done, call) {
 
 for (const [id, call] of [["register", () => passkeys.register(element("name").value)], ["sign-in", () => passkeys.signIn()], ["sign-out", () => passkeys.signOut()]])
   element(id).onclick = act(element(id).dataset.done, call);
+document.addEventListener("visibilitychange", () => (document.hidden ? waiting?.abort() : show()));
 show();

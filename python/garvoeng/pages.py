@@ -22,7 +22,7 @@ TRY_AGAIN = "the site's storage did not answer: try again"
 MAX_NAME = 64
 """The longest name of an account, in characters."""
 _JOINERS = {0x200C: None, 0x200D: None}
-FILES = {"": ("passkeys.html", "text/html"), "passkeys.js": ("passkeys.js", "text/javascript"), "page.js": ("page.js", "text/javascript")}
+FILES = {"": ("passkeys.html", "text/html"), **{name: (name, "text/javascript") for name in ("passkeys.js", "browser.js", "page.js")}}
 """The files and their types, by their paths."""
 
 

@@ -8,7 +8,8 @@ import random
 import time
 from contextlib import contextmanager
 from dataclasses import replace
-from typing import Any, Callable, Dict, Iterator, List, Mapping, Optional, Tuple, TypeVar
+from functools import partial
+from typing import Any, Awaitable, Callable, Dict, Iterator, List, Mapping, Optional, Tuple, TypeVar
 
 from . import limits, options, sql_connections
 from .answers import in_thread, kind_of, refuse
@@ -28,9 +29,19 @@ TRIES = 8
 """How often a transaction is tried if another one is in its way."""
 
 Answered = TypeVar("Answered")
+Awaited = Callable[..., Awaitable[Any]]
 Hook = Callable[[Rows, Any], Any]
 """A site's function that changes its own rows in the transaction of a call: `rows.run(statement, *values)`, with `?` in place of each
 value."""
+
+
+def _awaited(call: Callable[..., Any]) -> Awaited:
+    """A call in its awaited form."""
+    async def made(*words: Any, **named: Any) -> Any:
+        return await in_thread(call, *words, **named)
+
+    made.__name__, made.__doc__ = f"{call.__name__}_async", f"`{call.__name__}`, awaited like `register_begin_async`."
+    return made
 
 
 class SqlServer:
@@ -41,6 +52,10 @@ class SqlServer:
     psycopg.connect(address)`, or a context manager of one. Each call takes one, and gives it back or closes it; it does not matter what
     rows the connection makes, or whether it commits by itself. `lifetime` is how many seconds a session stays open. Call `prepare` before
     the first call.
+
+    Each call has an awaited form, whose name ends in `_async`. For these `connect` may also be a pool of psycopg_pool or asyncpg that is
+    awaited, or a function that opens such a connection: `lambda: psycopg.AsyncConnection.connect(address)`, `lambda:
+    asyncpg.connect(address)` or `lambda: aiosqlite.connect("site.sqlite", isolation_level=None)`.
 
     `on_registered(rows, registered)`, `on_signed_in(rows, signed_in)` and `on_erased(rows, user)` run in the transaction of the call that
     stores the change: an exception from one is raised, and then nothing is stored. If another transaction is in the way (a serialization
@@ -170,7 +185,7 @@ class SqlServer:
         number = limits.check_session(session)
 
         def complete(rows: Rows) -> SignedIn:
-            judged = self.server.authenticate_complete(rows.take(number, SignInSession), response, credential=rows.credential)
+            judged = self.server.authenticate_complete(rows.take(number, SignInSession), response, credential=partial(rows.credential, locks=True))
             rows.count(judged)
             signed_in = replace(judged, before=None)
             self._tell("on_signed_in", self._on_signed_in, rows, signed_in)
@@ -246,3 +261,9 @@ class SqlServer:
         """Ends a session, or a sign-in of `keep_sign_in`. Returns whether it was there."""
         number = limits.check_session(session)
         return self.within(lambda rows: rows.end(number))
+
+    # ---- awaited
+
+    prepare_async, add_async, rows_async, abandon_async = _awaited(prepare), _awaited(add), _awaited(rows), _awaited(abandon)
+    keep_sign_in_async, signed_in_async = _awaited(keep_sign_in), _awaited(signed_in)
+    retire_async, retire_all_async, delete_async, erase_async = _awaited(retire), _awaited(retire_all), _awaited(delete), _awaited(erase)

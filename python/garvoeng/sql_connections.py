@@ -7,6 +7,7 @@ from collections.abc import Mapping
 from contextlib import contextmanager, suppress
 from typing import Any, Callable, Iterator, Optional, Sequence, Tuple
 
+from . import sql_awaited
 from .answers import refuse
 
 RETRIED = ("40001", "40P01")
@@ -17,14 +18,17 @@ _log = logging.getLogger("garvoeng")
 
 def can_connect(source: Any) -> bool:
     """Whether the value can provide connections."""
-    return callable(source) or any(callable(getattr(source, name, None)) for name in ("getconn", "raw_connection", "connection"))
+    return callable(source) or any(callable(getattr(source, name, None)) for name in ("getconn", "raw_connection", "connection", "acquire"))
 
 
-def _pool_of(source: Any) -> Any:
-    """The pool that lends connections by `getconn` and takes them back by `putconn`, as in psycopg_pool and psycopg2.pool; None if there is
-    none. `pool.getconn` stands for the pool."""
-    owner = getattr(source, "__self__", None) if getattr(source, "__name__", None) == "getconn" else source
-    return owner if all(callable(getattr(owner, name, None)) for name in ("getconn", "putconn")) else None
+def _pool_of(source: Any) -> Optional[Tuple[Callable[[], Any], Callable[[Any], Any]]]:
+    """How a pool lends connections and takes them back: by `getconn` and `putconn`, as in psycopg_pool and psycopg2.pool, or by `acquire` and
+    `release`, as in asyncpg; None if it is no pool. `pool.getconn` stands for the pool."""
+    for lend, take in (("getconn", "putconn"), ("acquire", "release")):
+        owner = getattr(source, "__self__", None) if getattr(source, "__name__", None) == lend else source
+        if all(callable(getattr(owner, name, None)) for name in (lend, take)):
+            return getattr(owner, lend), getattr(owner, take)
+    return None
 
 
 def _opened(source: Any) -> Any:
@@ -34,12 +38,14 @@ def _opened(source: Any) -> Any:
 
 
 def _check(connection: Any) -> Any:
-    """Refuses a connection with awaited calls."""
-    if inspect.isawaitable(connection) or inspect.iscoroutinefunction(getattr(connection, "commit", None)):
-        refuse("connect", connection, "a connection whose calls are not awaited, as psycopg.connect opens", awaited_in="")
+    """Refuses what is not a connection."""
     if not all(callable(getattr(connection, name, None)) for name in ("cursor", "commit", "rollback")):
         refuse("connect", connection, f"a connection of DB-API; connect is {_WANTED}", awaited_in="")
     return connection
+
+
+def _close(connection: Any) -> Any:
+    return connection.close()
 
 
 def _given_back(give: Callable[[Any], Any], connection: Any) -> None:
@@ -65,10 +71,24 @@ def _within(opened: Any) -> Iterator[Any]:
 
 
 @contextmanager
+def _awaited(opened: Any, take: Callable[[Any], Any]) -> Iterator[Any]:
+    """The connection of a call that is awaited, which `take` takes back or closes."""
+    inner = sql_awaited.waited(opened) if inspect.isawaitable(opened) else opened
+    try:
+        yield sql_awaited.Connection(inner)
+    finally:
+        _given_back(lambda one: sql_awaited.waited(take(one)), inner)
+
+
+@contextmanager
 def borrowed(source: Any) -> Iterator[Any]:
     """A connection, which is given back or closed at the end."""
     pool = _pool_of(source)
-    opened = pool.getconn() if pool is not None else _opened(source)
+    opened, take = (pool[0](), pool[1]) if pool is not None else (_opened(source), _close)
+    if sql_awaited.is_awaited(opened):
+        with _awaited(opened, take) as connection:
+            yield connection
+        return
     if not callable(getattr(opened, "cursor", None)) and callable(getattr(opened, "__enter__", None)):
         with _within(opened) as connection:
             yield connection
@@ -77,7 +97,7 @@ def borrowed(source: Any) -> Iterator[Any]:
     try:
         yield connection
     finally:
-        _given_back(pool.putconn if pool is not None else lambda one: one.close(), connection)
+        _given_back(take, connection)
 
 
 def _tuples(_: Any) -> Callable[[Sequence[Any]], Tuple[Any, ...]]:

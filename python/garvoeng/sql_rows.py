@@ -251,9 +251,10 @@ class Rows:
 
     # ---- credentials
 
-    def credential(self, id: bytes) -> Optional[KeptCredential]:
-        """Raises `RowDamaged`."""
-        row = self.run(f"select {_COLUMNS} from garvoeng_credential where id = ?", id).fetchone()
+    def credential(self, id: bytes, *, locks: bool = False) -> Optional[KeptCredential]:
+        """If it locks, the row stays as it is until the transaction ends. Raises `RowDamaged`."""
+        lock = " for update" if locks and not self.is_sqlite else ""
+        row = self.run(f"select {_COLUMNS} from garvoeng_credential where id = ?{lock}", id).fetchone()
         return None if row is None else _row(row)
 
     def has(self, id: bytes) -> bool:

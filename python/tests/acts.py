@@ -65,7 +65,7 @@ def cookies_and_headers(site):
     assert status == 200 and b"<!doctype html>" in page.lower() and visitor.headers["content-type"].startswith("text/html")
     policy = visitor.headers["content-security-policy"]
     assert "default-src 'none'" in policy and "frame-ancestors 'none'" in policy and "unsafe" not in policy
-    for path, part in (("passkeys.js", b"const passkeys"), ("page.js", b"element")):
+    for path, part in (("passkeys.js", b"const passkeys"), ("browser.js", b"export const register"), ("page.js", b"element")):
         status, script = visitor(path)
         assert status == 200 and part in script and visitor.headers["content-type"].startswith("text/javascript")
 

@@ -2,6 +2,7 @@
 these by Debian's debug build of Python with the address sanitizer too."""
 import gc
 import json
+import os
 import random
 import subprocess
 import sys
@@ -9,10 +10,12 @@ import threading
 import time
 import tracemalloc
 from dataclasses import replace
+from pathlib import Path
 
 import pytest
 from device import AT, ED, UP, UV, Device, changed
 
+import garvoeng
 from garvoeng import EDDSA, ES256, BadInput, Credential, Refused, RowDamaged, Server, SignedIn, _passkey, forms, server, signatures
 
 USER, ORIGIN = b"account 7", "https://example.com"
@@ -520,3 +523,46 @@ print(sorted(wanted))
     path = [str(__import__("pathlib").Path(__file__).parent)]
     said = subprocess.run([sys.executable, "-c", one.format(path=path)], capture_output=True, text=True)
     assert said.stdout == "['MemoryError', 'Refused']\n", said.stderr
+
+
+IN_INTERPRETERS = """
+import sys
+code = '''
+import sys
+sys.path[:0] = PATHS
+from garvoeng import Server
+server = Server("example.com", ["https://example.com"], verify=lambda *_: False)
+options, session = server.register_begin(b"account", "ada")
+assert len(session.challenge) == 32
+'''.replace("PATHS", repr(sys.path))
+if sys.version_info < (3, 12):
+    import _xxsubinterpreters as interpreters
+    kinds = [{}]
+elif sys.version_info < (3, 13):
+    import _xxsubinterpreters as interpreters
+    kinds = [{"isolated": False}, {"isolated": True}]
+else:
+    import _interpreters as interpreters
+    kinds = ["legacy", "isolated"]
+for kind in kinds * 2:
+    made = interpreters.create(**kind) if isinstance(kind, dict) else interpreters.create(kind)
+    assert interpreters.run_string(made, code) is None
+    interpreters.destroy(made)
+print("each")
+"""
+
+
+def interpreters():
+    """This one, and later ones that the machine has. A debug build's module is for that build alone."""
+    if hasattr(sys, "gettotalrefcount"):
+        return [sys.executable]
+    debian = [Path("/usr/bin", name) for name in ("python3.12", "python3.13")]
+    return [sys.executable, *map(str, filter(Path.exists, debian)), *map(str, sorted(Path.home().glob(".pyenv/versions/3.1[2-9].*/bin/python3")))]
+
+
+@pytest.mark.parametrize("python", interpreters())
+def test_interpreters(python):
+    """From 3.12 on each may have a lock of its own."""
+    done = subprocess.run([python, "-c", IN_INTERPRETERS], capture_output=True, text=True, timeout=100, check=False,
+                          env={**os.environ, "PYTHONPATH": str(Path(garvoeng.__file__).resolve().parents[1])})
+    assert (done.stdout, done.returncode) == ("each\n", 0), done.stderr

@@ -1,4 +1,4 @@
-"""`garvoeng.move`: rows of python-fido2 and py_webauthn, and what is none."""
+"""`garvoeng.move`: rows of python-fido2, py_webauthn and SimpleWebAuthn, and what is none."""
 import io
 import json
 import sqlite3
@@ -26,6 +26,17 @@ def py_webauthn_row(device, **more):
             "sign_count": device.count, "credential_device_type": "single_device", "credential_backed_up": False, **more}
 
 
+def simplewebauthn_row(device, **more):
+    return {"webauthnUserID": to_text(USER), "id": to_text(device.id), "publicKey": to_text(device.cose_key()), "counter": device.count,
+            "deviceType": "singleDevice", "backedUp": False, **more}
+
+
+KINDS = [("fido2", fido2_row), ("py_webauthn", py_webauthn_row), ("simplewebauthn", simplewebauthn_row)]
+# The members that have the key, the user and the counter.
+NAMES = {"fido2": ("credential_data", "user", "counter"), "py_webauthn": ("credential_public_key", "user", "sign_count"),
+         "simplewebauthn": ("publicKey", "webauthnUserID", "counter")}
+
+
 @pytest.fixture
 def server(tmp_path):
     made = SqlServer(Server("example.com", ["https://example.com"]), lambda: sqlite3.connect(tmp_path / "site.sqlite", timeout=30))
@@ -33,7 +44,7 @@ def server(tmp_path):
     return made
 
 
-@pytest.mark.parametrize("kind, row_of", [("fido2", fido2_row), ("py_webauthn", py_webauthn_row)])
+@pytest.mark.parametrize("kind, row_of", KINDS)
 def test_rows_sign_in(tmp_path, server, kind, row_of):
     devices = [Device(algorithm, credential=b"credential %d" % algorithm) for algorithm in (ES256, EDDSA, RS256)]
     lines = "".join(json.dumps(row_of(device, transports=["usb"])) + "\n" for device in devices)
@@ -64,25 +75,56 @@ def test_what_a_row_says(server):
         [row] = [row for row in server.rows(USER) if row.id == device.id]
         assert (row.eligible, row.backed_up, row.aaguid) == (eligible, backed_up, None)
         assert row.transports == ("internal", "hybrid")
+        again = Device(credential=b"of simplewebauthn %d" % number)
+        kinds = {"single_device": "singleDevice", "multi_device": "multiDevice", None: None}
+        text = json.dumps(simplewebauthn_row(again, deviceType=kinds[kind], backedUp=backed_up, transports=["internal"]))
+        assert move.moved(move.of_simplewebauthn, server, io.StringIO(text), [].append)
+        [row] = [row for row in server.rows(USER) if row.id == again.id]
+        assert (row.eligible, row.backed_up, row.transports) == (eligible, backed_up, ("internal",))
+    for wrong in ({"deviceType": "multi_device"}, {"deviceType": 1}, {"backedUp": 1}, {"backedUp": "true"}):
+        assert not move.moved(move.of_simplewebauthn, server, io.StringIO(json.dumps(simplewebauthn_row(Device(credential=b"w"), **wrong))), [].append)
 
 
-@pytest.mark.parametrize("kind, row_of", [("fido2", fido2_row), ("py_webauthn", py_webauthn_row)])
+def accounts_of(server):
+    return server.within(lambda rows: [(str(user), bytes(handle)) for user, handle in rows.run("select user_id, handle from garvoeng_account order by 1").fetchall()])
+
+
+def test_accounts(server):
+    """A row that names a Django user gives this user its handle, once."""
+    row, said = simplewebauthn_row(Device(), account=7), []
+
+    def moved(**more):
+        said.clear()
+        return move.moved(move.of_simplewebauthn, server, io.StringIO(json.dumps({**row, **more})), said.append)
+
+    assert not moved() and "garvoeng_account: run" in said[0] and server.rows() == []
+    server.within(lambda rows: rows.run("create table garvoeng_account (id integer primary key, user_id bigint unique, handle blob unique)"))
+    assert moved() and accounts_of(server) == [("7", USER)] and len(server.rows()) == 1
+    assert moved() and said == ["0 moved, 1 there already, 0 not moved"] and accounts_of(server) == [("7", USER)]
+    for more in ({"account": 8}, {"webauthnUserID": to_text(b"another")}):
+        assert not moved(id=to_text(b"second"), **more) and "has another user handle" in said[0]
+    for account in (True, 1.5, [], {}):
+        assert not moved(id=to_text(b"second"), account=account) and "primary key" in said[0]
+    assert accounts_of(server) == [("7", USER)] and len(server.rows()) == 1
+    assert moved(id=to_text(b"second"), account="7") and len(server.rows()) == 2
+
+
+@pytest.mark.parametrize("kind, row_of", KINDS)
 def test_what_is_no_row(server, kind, row_of):
     """It is told by its line, and the others are moved."""
     good, said = row_of(Device()), []
-    key = "credential_data" if kind == "fido2" else "credential_public_key"
-    wrong = [*VALUES, *({**good, key: value} for value in VALUES), {**good, "user": ""}, {**good, "user": to_text(bytes(65))},
+    key, user, name = NAMES[kind]
+    wrong = [*VALUES, *({**good, key: value} for value in VALUES), {**good, user: ""}, {**good, user: to_text(bytes(65))},
              {**good, key: good[key] + "AAAA"}, {**good, key: good[key][:-4]}]
     lines = [json.dumps(one) for one in wrong] + ["", "{", "[" * 100_000, json.dumps(good)]
     assert not move.moved(move.READERS[kind], server, io.StringIO("\n".join(lines)), said.append)
     assert said[-1] == f"1 moved, 0 there already, {len(lines) - 1} not moved"
     assert len(said) == len(lines) and len(server.rows()) == 1
-    for name in good:
+    for member in good:
         for value in VALUES:
-            move.moved(move.READERS[kind], server, io.StringIO(json.dumps({**good, name: value})), said.append)
+            move.moved(move.READERS[kind], server, io.StringIO(json.dumps({**good, member: value})), said.append)
     assert all(1 <= len(row.user) <= 64 and 1 <= len(row.id) <= 1023 for row in server.rows())
     for count in (-1, 2**32, True, None, "1", 1.0):
-        name = "counter" if kind == "fido2" else "sign_count"
         assert not move.moved(move.READERS[kind], server, io.StringIO(json.dumps({**row_of(Device(credential=b"x")), name: count})), said.append)
 
 

@@ -12,6 +12,7 @@ from storages import PARTY, emptied, outcome
 from test_storages import OTHER, USER, Visit, broken
 
 from garvoeng import BadInput, Server
+from garvoeng.signatures import is_valid
 from garvoeng.sql import SqlServer
 
 POSTGRES = os.environ.get("POSTGRES")
@@ -442,9 +443,11 @@ def test_what_can_not_connect():
     async def later():
         pass
 
-    for wrong in (lambda: None, lambda: 7, lambda: "x", Odd, later, lambda: engine("sqlite://").connect()):
+    for wrong in (lambda: None, lambda: 7, lambda: "x", Odd, lambda: engine("sqlite://").connect()):
         with pytest.raises(TypeError, match="connect answered an? .*, and not a connection|connect answered None"):
             SqlServer(server, wrong).rows()
+    with pytest.raises(TypeError, match="_async"):
+        SqlServer(server, later).rows()
 
 
 @pytest.mark.skipif(POSTGRES is None, reason="POSTGRES is not set")
@@ -508,3 +511,26 @@ def test_hooks_that_lock_each_other_out():
     with ThreadPoolExecutor(2) as threads:
         said = list(threads.map(lambda user: Visit(site).signs_in(devices[user], user), devices))
     assert [one.credential.sign_count for one in said] == [1, 1] and len(calls) >= 3
+
+
+@pytest.mark.skipif(POSTGRES is None, reason="POSTGRES is not set")
+def test_the_row_that_is_judged_is_locked():
+    """Between the verdict and its writing nobody deletes the credential and registers its id for somebody else."""
+    emptied(psycopg().connect(POSTGRES))
+    tried = []
+
+    def verify(*words):
+        with psycopg().connect(POSTGRES) as other:
+            other.execute("set lock_timeout = '200ms'")
+            try:
+                other.execute("delete from garvoeng_credential")
+            except psycopg().errors.LockNotAvailable as error:
+                tried.append(error)
+        return is_valid(*words)
+
+    site = SqlServer(Server(*PARTY, verify=verify), lambda: psycopg().connect(POSTGRES))
+    site.prepare()
+    visit, device = Visit(site), Device()
+    visit.registers(device)
+    options, session = site.authenticate_begin(user=USER)
+    assert site.authenticate_complete(session, device.sign_in(options)).credential.sign_count == 1 and len(tried) == 1

@@ -241,7 +241,7 @@ def test_slips_of_a_site(site):
 
 
 def test_connections_that_are_awaited():
-    """Nothing would be written by them."""
+    """They are for awaited calls."""
     class Awaited:
         async def commit(self):
             pass
@@ -249,9 +249,9 @@ def test_connections_that_are_awaited():
     async def connect():
         return Awaited()
 
-    for opens, kind in ((connect, "a coroutine"), (Awaited, "an Awaited")):
+    for opens in (connect, Awaited):
         site = SqlServer(Server("example.com", ["https://example.com"]), opens)
-        with pytest.raises(TypeError, match=f"connect answered {kind}, and not a connection whose calls are not awaited, as psycopg.connect opens$"):
+        with pytest.raises(TypeError, match="connect opens connections whose calls are awaited: they are for the calls whose names end in _async$"):
             site.authenticate_begin()
 
 

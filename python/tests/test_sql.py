@@ -153,8 +153,8 @@ def test_a_counter_that_changed_meanwhile(site, connect):
         session, response = begun(site, device)
         original = sql.Rows.credential
 
-        def credential(rows, id):
-            found = original(rows, id)
+        def credential(rows, id, **how):
+            found = original(rows, id, **how)
             rows.run(f"update garvoeng_credential set {change}")
             return found
 
@@ -305,7 +305,7 @@ def test_what_fails_changes_nothing(site, connect):
     for name in ("count", "credential", "take"):
         original = getattr(sql.Rows, name)
 
-        def fail(*_):
+        def fail(*_, **how):
             raise MemoryError
 
         setattr(sql.Rows, name, fail)

@@ -15,7 +15,7 @@ __all__ = ["site"]
 
 def test_a_visit(site):
     visitor, other, key = site.visitor(), site.visitor(), device()
-    for path, kind in (("", b"<!doctype html>"), ("passkeys.js", b"const passkeys"), ("page.js", b"element")):
+    for path, kind in (("", b"<!doctype html>"), ("passkeys.js", b"const passkeys"), ("browser.js", b"export const register"), ("page.js", b"element")):
         status, said = visitor(path)
         assert status == 200 and kind in said
     assert visitor("list")[0] == visitor("retire", {"id": "AA"})[0] == 401

@@ -182,7 +182,7 @@ def test_functions_that_answer_wrongly(name, tmp_path):
                 assert site.server.rows() == []
     if name != "user_of":
         return
-    assert "belongs into a site whose core is awaited" in str(asked_with(tmp_path, name, later_on, "list")[0])
+    assert "belongs in a site whose core is awaited" in str(asked_with(tmp_path, name, later_on, "list")[0])
 
 
 def test_functions_that_are_awaited(tmp_path):

@@ -8,7 +8,7 @@ app_name = "garvoeng"
 urlpatterns = [
     path("", views.page, name="page"),
     path("passkeys.js", views.page, {"path": "passkeys.js"}, name="script"),
-    path("page.js", views.page, {"path": "page.js"}),
+    *(path(name, views.page, {"path": name}) for name in ("browser.js", "page.js")),
     path("token", views.token, name="token"),
     *(path(act, views.act, {"path": act}, name=act.replace("/", "_").replace("-", "_")) for act in PATHS if act not in FILES),
 ]
