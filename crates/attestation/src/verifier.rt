@@ -32,7 +32,7 @@ impl VerifiedSignature<'_> {
     }
 }
 
-/// What the host's own library found: here nothing is valid but the signatures that are handed in, each of just its message
+/// What the host's own library found: here nothing is valid but the signatures that are passed, each of just its message
 /// under just its key.
 #[derive(Clone, Copy, Debug, Drop)]
 pub struct HostVerifier<'a> {

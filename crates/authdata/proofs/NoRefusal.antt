@@ -127,7 +127,7 @@ key_inside a c bs h e =
 pub not_refused : (p : Profile) (a : AuthenticatorData) (bs : List ℕ) (e : Error) → First (Applies p bs) order e → AuthOf p a bs → ⊥
 not_refused p a bs e first h = none_applies p a bs e h (stops_at first)
 
--- the first refusal that applies is no want of memory
+-- the first refusal that applies is not that memory ran out
 pub no_memory : (p : Profile) (bs : List ℕ) (e : Error) → First (Applies p bs) order e → e ≡ errors.Memory → ⊥
 no_memory p bs e first is = subst (λ (x : Error). Applies p bs x) is (stops_at first)
 

@@ -64,7 +64,7 @@ order =
     ∷ errors.BadBackup
     ∷ later_order
 
--- what an answered refusal says of the bytes; want of memory says nothing
+-- what an answered refusal says of the bytes; running out of memory says nothing
 abbrev pub Refused : Profile → List ℕ → Error → Type 0
 Refused profile bs e = e ≢ errors.Memory → First (Applies profile bs) order e
 

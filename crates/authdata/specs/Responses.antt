@@ -11,7 +11,7 @@ pub record AuthenticatorAssertionResponse : Type 0 where
   pub signature : List ℕ
   pub client_data : List ℕ
 
--- 5.2.1: attestationObject, clientDataJSON; and the credential's id as the client names it (5.1, rawId), where it is handed in
+-- 5.2.1: attestationObject, clientDataJSON; and the credential's id as the client names it (5.1, rawId), where it is passed
 pub record AuthenticatorAttestationResponse : Type 0 where
   pub object : List ℕ
   pub client_data : List ℕ

@@ -51,7 +51,7 @@ pub enum Error {
 }
 
 impl Error {
-    /// The refusal's number; want of memory has none.
+    /// The refusal's number; running out of memory has none.
     pub fn number(&self) -> Option<u8>
         ensures { result ≡ refusal_number self.now }
     {

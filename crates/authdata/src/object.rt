@@ -33,7 +33,7 @@ impl AttestationObject {
         // It is called unfit only if it has no bytes.
         ensures unfit { IsErrOf result errors.Unfit
             → (bytes : List ℕ) → ObjectOf (object_view self) bytes → ⊥ }
-        // Of a statement that is no map it is told without taking memory.
+        // Of a statement that is no map it is answered without taking memory.
         ensures no_map { (IsMap (object_view self).statement → ⊥) → IsErrOf result errors.Unfit }
         ensures errors { IfErr result (λ e. (e ≡ errors.Unfit) ⊎ (e ≡ errors.Memory)) }
     {

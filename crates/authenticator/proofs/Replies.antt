@@ -19,7 +19,7 @@ use Rattle.ctap_replies.specs.Replies.{creation_reply_item, creation_reply_membe
 use Rattle.authenticator.specs.Private.{IsMessage, FitsReply, IsUser}
 use Rattle.authenticator.specs.Steps.{info_of}
 
--- ---- at most so many bytes
+-- ---- at most this many bytes
 
 abbrev mutual
   pub cost : Item → ℕ

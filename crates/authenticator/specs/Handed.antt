@@ -1,4 +1,4 @@
--- The public keys of one secret that are handed in.
+-- The public keys of one secret that are passed.
 use Rattle.std.specs.Prelude.{◌≡◌, refl}
 use Rattle.cose.specs.declared.key.SigningAlg.{SigningAlg}
 use Rattle.cose.specs.declared.key.SigningAlg.TheVariants as algs

@@ -144,7 +144,7 @@ NextBegins public old channel b new =
 
 -- ---- loading
 
--- so many bytes, from low to high
+-- this many bytes, from low to high
 abbrev pub sized_in : ℕ → ℕ → Item → Option (List ℕ)
 sized_in low high x = bytes_in x >>= λ bs. if nat_le low (length bs) && nat_le (length bs) high then Some bs else None
 

@@ -151,7 +151,7 @@ impl Authenticator {
     /// no counter has grown, and no credential was made. So what waits may be dropped.
     ///
     /// Presence and verification are asked for here, in the orders of `handle`. The keys are asked for the public key of
-    /// the secret that is handed in, where a credential is to be made, and for no other: so they may be the keys of this one
+    /// the secret that is passed, where a credential is to be made, and for no other: so they may be the keys of this one
     /// secret alone ([`HandedKeys`](crate::HandedKeys)), and a credential that is stored answers under the keys of its own.
     pub fn begin<K: PublicKeys>(
         &mut self,
@@ -176,7 +176,7 @@ impl Authenticator {
     /// The second step: takes the signature, of 1 to 128 bytes, of what [`Authenticator::begin`] told, and answers the
     /// request. The counter grows here, or the credential is stored.
     ///
-    /// The authenticator is to be as `begin` left it. Where memory is wanting, nothing has changed.
+    /// The authenticator is to be as `begin` left it. If memory runs out, nothing has changed.
     pub fn finish(&mut self, pending: Pending, signature: &[u8]) -> Result<Vec<u8>, AllocError>
         requires low { 1 ≤ length signature.now }
         requires high { length signature.now ≤ 128 }
@@ -200,7 +200,7 @@ impl Authenticator {
     /// - makeCredential (CTAP 2.1, section 6.1): 0x26 no algorithm of type `public-key` is supported (ES256 and
     ///   EdDSA are); 0x2C `up` is false, or `uv` is true and verification isn't configured; 0x27 presence isn't
     ///   given, or `uv` is true and verification isn't given; 0x19 a credential of the exclude list is stored for
-    ///   the relying party; 0x7F the id handed in is taken; 0x28 256 credentials are stored and none is
+    ///   the relying party; 0x7F the id passed is taken; 0x28 256 credentials are stored and none is
     ///   overwritten. Otherwise a credential is made, of the first supported algorithm. Where it is resident, it
     ///   takes the place of a resident one of the same relying party and user.
     /// - getAssertion (section 6.2): 0x2C `uv` is true and verification isn't configured; 0x27 `up` isn't false
@@ -212,7 +212,7 @@ impl Authenticator {
     /// - getInfo (section 6.4) is always answered.
     /// - reset (section 6.6): 0x27 presence isn't given. Otherwise all credentials go.
     ///
-    /// Each call but a getNextAssertion that is answered forgets what was remembered. Where memory is wanting,
+    /// Each call but a getNextAssertion that is answered forgets what was remembered. If memory runs out,
     /// nothing has changed.
     pub fn handle<S: Signer>(
         &mut self,

@@ -18,7 +18,7 @@ pub enum LoadError {
 }
 
 impl LoadError {
-    /// The number of the refusal; none for want of memory.
+    /// The number of the refusal; none if memory runs out.
     pub fn number(&self) -> Option<u8>
         ensures { result ≡ refusal_number self.now }
     {

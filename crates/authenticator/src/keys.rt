@@ -39,7 +39,7 @@ impl<S: Signer> PublicKeys for SchemeKeys<'_, S> {
 }
 
 /// The public keys of one secret, made elsewhere: that of ES256 by its coordinates, and that of EdDSA. Both are those
-/// of the secret that is handed in with them.
+/// of the secret that is passed with them.
 #[derive(Clone, Copy, Debug, PartialEq, Eq, Drop)]
 pub struct HandedKeys {
     /// The x coordinate of the key of ES256.

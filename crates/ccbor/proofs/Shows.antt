@@ -20,7 +20,7 @@ shown_is x bs c = rw (front_read false x bs [] bs c (sym (append-nil bs))) refl
 pub shows : (x : Item) (bs : List ℕ) → Canon x bs → Canon (shown bs) bs
 shows x bs c = rw (shown_is x bs c) c
 
--- a view's value is refused only for want of memory
+-- a view's value is refused only if memory runs out
 pub readable : {X : Type 0} (bs : List ℕ) → Canon (shown bs) bs → item_at false 4 bs ≡ None → X
 readable bs c none = let found = front_read false (shown bs) bs [] bs c (sym (append-nil bs)) in absurd cc
 

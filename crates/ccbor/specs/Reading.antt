@@ -30,7 +30,7 @@ abbrev pub Gives : {X Y : Type 0} → (X → Y) → Result X Error → Option Y 
 Gives view (Ok x) read = read ≡ Some (view x)
 Gives view (Err e) read = Fails e read
 
--- the same of a function that takes no memory
+-- the same for a function that takes no memory
 abbrev pub Refuses : {Y : Type 0} → Error → Option Y → Type 0
 Refuses errors.NotCanonical read = read ≡ None
 Refuses _ read = ⊥
@@ -50,7 +50,7 @@ key_rest read = option_map (λ x. (x.0.1, x.1)) read
 abbrev pub at_least : ℕ → ℕ → List ℕ → Read ℕ
 at_least least n rest = if nat_lt n least then None else Some (n, rest)
 
--- a number of so many bytes, no less than least
+-- a number of this many bytes, no less than least
 abbrev pub number_at : Width → ℕ → List ℕ → Read ℕ
 number_at w least bs =
     if nat_lt (length bs) (byte_len w) then None

@@ -22,13 +22,13 @@ pub enum Error {
     /// encoding, and bytes follow it.
     #[error("bytes follow the canonical encoding")]
     Trailing,
-    /// A growth was refused for want of memory.
+    /// An allocation failed.
     #[error("out of memory")]
     Memory,
 }
 
 impl Error {
-    /// The refusal's number; want of memory has none.
+    /// The refusal's number; running out of memory has none.
     pub fn number(&self) -> Option<u8>
         ensures { result ≡ refusal_number self.now }
     {

@@ -91,7 +91,7 @@ fn pairs_at(
 /// them is not looked at.
 ///
 /// Refused as [`Error::NotCanonical`] where no front of the input is a canonical encoding (CTAP 2.1,
-/// "Message Encoding"), before any memory is taken. Otherwise it is refused only for want of memory,
+/// "Message Encoding"), before any memory is taken. Otherwise it is refused only if memory runs out,
 /// as [`Error::Memory`]. The memory that is taken grows with the bytes that are read.
 pub fn decode(alloc: Global, bytes: &[u8]) -> Result<(Value, usize), Error>
     // The value is encoded by these bytes,
@@ -117,7 +117,7 @@ pub fn decode(alloc: Global, bytes: &[u8]) -> Result<(Value, usize), Error>
 ///
 /// Refused as [`Error::NotCanonical`] where no front of the input is a canonical encoding, and as
 /// [`Error::Trailing`] where a front is and bytes follow it, before any memory is taken. Otherwise it
-/// is refused only for want of memory, as [`Error::Memory`].
+/// is refused only if memory runs out, as [`Error::Memory`].
 pub fn decode_all(alloc: Global, bytes: &[u8]) -> Result<Value, Error>
     // The whole input encodes the value and no other,
     ensures found { IfOk result (λ x. Canon (view x) bytes.now) }

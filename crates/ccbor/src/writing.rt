@@ -123,8 +123,8 @@ fn put_pairs(pairs: &[(Value, Value)], depth: u8, out: &mut Vec<u8>) -> Result<(
 
 /// Appends the value's one canonical encoding (CTAP 2.1, "Message Encoding").
 ///
-/// Refused as [`Error::Unfit`] where the value has none. Otherwise it is refused only for want of
-/// memory, as [`Error::Memory`]; a value without an encoding may be refused so too. After an error
+/// Refused as [`Error::Unfit`] where the value has none. Otherwise it is refused only if
+/// memory runs out, as [`Error::Memory`]; a value without an encoding may be refused so too. After an error
 /// the output's bytes are as they were.
 pub fn encode(value: &Value, out: &mut Vec<u8>) -> Result<(), Error>
     // What is appended encodes the value,

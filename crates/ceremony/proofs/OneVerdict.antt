@@ -152,7 +152,7 @@ module _ {R W : Type 0} (k : Ceremony R W) (one : IsOne k) where
       let o = one_carried c n j ps 16 16 a.0 b.0 a.1.0 b.1.0 a.1.1 b.1.1 in
       (o.0, one.one_reply r q b.0 (subst (λ (m : List ℕ). k.IsReply r m) o.2 a.2) b.2)
 
-  -- a message that succeeds is refused for nothing but want of memory
+  -- a message that succeeds is refused only if memory runs out
   good_message : (m : List ℕ) (r : R) (e : Error W) → e ≢ errors.Memory → k.IsReply r m → k.PassesSite r → RefusedMessage k m e → ⊥
   good_message m r errors.Memory some spelled passes h = some refl
   good_message m r (errors.Reply x) some spelled passes h = one.read r m x spelled h.0 h.1

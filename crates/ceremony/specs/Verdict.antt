@@ -1,4 +1,4 @@
--- What a list of packets is worth at a site: the verdict, the same of both ceremonies. Its layers are the packets
+-- What a list of packets is worth at a site: the verdict, the same for both ceremonies. Its layers are the packets
 -- (CTAPHID), the reply that they carry (CTAP 2.1, section 6) and the steps of the site (WebAuthn Level 2, section 7).
 use Rattle.std.specs.Prelude.{◌≢◌, ◌<◌, ◌≤◌, ◌+◌, ℕ, List, [], ◌∷◌, length, take}
 use Rattle.hidframe.specs.declared.Packet.{Packet}
@@ -31,7 +31,7 @@ abbrev pub CarriesReply : {R : Type 0} → (R → List ℕ → Type 0) → (R �
 CarriesReply {R} IsReply P c ps = (n : ℕ) × (m : List ℕ) × (r : R) × Delivers c ps n m × IsReply r m × P r
 
 -- why the message is refused: it is no reply to the command, or the first step of the site that the reply does not pass.
--- Want of memory says nothing.
+-- Running out of memory says nothing.
 abbrev pub RefusedMessage : {R W : Type 0} → Ceremony R W → List ℕ → Error W → Type 0
 RefusedMessage k m (errors.Reply e) = ReplyRefused k.command m e × (e ≢ replies.Memory)
 RefusedMessage {R} k m (errors.Refused w) = (r : R) × k.IsReply r m × k.FailsSite r w

@@ -36,7 +36,7 @@ pub enum Error<W> {
 }
 
 impl<W> Error<W> {
-    /// The number of the refusal; none for a step of the site's, which has its own, and for want of memory.
+    /// The number of the refusal; none for a step of the site's, which has its own, and if memory runs out.
     pub fn number(&self) -> Option<u8>
         ensures { result ≡ refusal_number self.now }
     {

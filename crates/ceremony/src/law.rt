@@ -17,7 +17,7 @@ ghost use Rattle.ceremony.specs.declared.error.Error.TheVariants as errors;
 use cose::Verifier;
 
 /// Packets, a site, a session and client data have one verdict at most, in either ceremony: they are accepted after one
-/// number of packets by one reply, or refused for one reason. Want of memory is no verdict.
+/// number of packets by one reply, or refused for one reason. Running out of memory is no verdict.
 pub fn one_verdict<V: Verifier>()
     ensures sign_in_one_acceptance { (verifier : V) (s : SiteState) (session : ℕ) (t : List ℕ) (c : ℕ) (ps : List Packet) (n k : ℕ) (r q : Assertion)
         → Succeeds (sign_in (V.valid verifier) s session t) c ps n r → Succeeds (sign_in (V.valid verifier) s session t) c ps k q

@@ -49,7 +49,7 @@ fn object(alloc: Global, reply: CreationReply) -> Result<Vec<u8>, AllocError>
     }
 }
 
-/// A response of this object and these client data, whose id is not handed in.
+/// A response of this object and these client data, whose id is not passed.
 fn parts<'a>(object: &'a [u8], client_data: &'a [u8]) -> RegistrationParts<'a>
     ensures { registration_parts_view result ≡ record { object = object.now; client_data = client_data.now; raw_id = None } }
 {
@@ -112,7 +112,7 @@ impl Live {
         // where it is accepted, they do,
         ensures accepted { (ps : List Packet) → HasGot self.now ps
             → IfOk result (AcceptsRegistration (V.valid verifier.now) site.old session client_data.now self.now.cid ps) }
-        // and where they do, it is accepted after just these, unless memory is wanting.
+        // and where they do, it is accepted after just these, unless memory runs out.
         ensures complete { (ps : List Packet) (n : ℕ) (r : Creation) → HasGot self.now ps
             → Succeeds (ceremony.registration (V.valid verifier.now) site.old session client_data.now) self.now.cid ps n r
             → MatchResult result (λ a. a.used ≡ n) (λ e. e ≡ errors.Memory) }
@@ -159,7 +159,7 @@ pub fn register<V: Verifier>(
     // It is accepted after n packets exactly if these carry a reply which passes each step of the site:
     // where it is accepted, they do,
     ensures accepted { IfOk result (AcceptsRegistration (V.valid verifier.now) site.old session client_data.now cid packets.now) }
-    // and where they do, it is accepted after just these, unless memory is wanting.
+    // and where they do, it is accepted after just these, unless memory runs out.
     ensures complete { (n : ℕ) (r : Creation)
         → Succeeds (ceremony.registration (V.valid verifier.now) site.old session client_data.now) cid packets.now n r
         → MatchResult result (λ a. a.used ≡ n) (λ e. e ≡ errors.Memory) }

@@ -95,7 +95,7 @@ impl Live {
         // where it is accepted, they do,
         ensures accepted { (ps : List Packet) → HasGot self.now ps
             → IfOk result (AcceptsSignIn (V.valid verifier.now) site.old session client_data.now self.now.cid ps) }
-        // and where they do, it is accepted after just these, unless memory is wanting.
+        // and where they do, it is accepted after just these, unless memory runs out.
         ensures complete { (ps : List Packet) (n : ℕ) (r : Assertion) → HasGot self.now ps
             → Succeeds (ceremony.sign_in (V.valid verifier.now) site.old session client_data.now) self.now.cid ps n r
             → MatchResult result (λ a. a.used ≡ n) (λ e. e ≡ errors.Memory) }
@@ -153,7 +153,7 @@ pub fn sign_in<V: Verifier>(
     // It is accepted after n packets exactly if these carry a reply which passes each step of the site:
     // where it is accepted, they do,
     ensures accepted { IfOk result (AcceptsSignIn (V.valid verifier.now) site.old session client_data.now cid packets.now) }
-    // and where they do, it is accepted after just these, unless memory is wanting.
+    // and where they do, it is accepted after just these, unless memory runs out.
     ensures complete { (n : ℕ) (r : Assertion)
         → Succeeds (ceremony.sign_in (V.valid verifier.now) site.old session client_data.now) cid packets.now n r
         → MatchResult result (λ a. a.used ≡ n) (λ e. e ≡ errors.Memory) }

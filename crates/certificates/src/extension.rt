@@ -106,7 +106,7 @@ fn first<'a>(content: &'a [u8], identifier: &[u8]) -> Result<Option<Extension<'a
     Ok(found)
 }
 
-/// Refused as `Repeated` where an extension stands there twice, and otherwise as what is no extension.
+/// Refused as `Repeated` where an extension stands there twice, and otherwise if it is not an extension.
 fn check_distinct(content: &[u8]) -> Result<(), Error>
     ensures found { IsOk result → (es : List ExtensionForm) × AreExtensions es content.now }
     ensures none { IsErr result → (es : List ExtensionForm) → AreExtensions es content.now → ⊥ }

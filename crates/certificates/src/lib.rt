@@ -1,6 +1,6 @@
 //! X.509 certificates (RFC 5280, section 4), read where they lie, for attestation by certificates (WebAuthn section 8).
 //!
-//! [`read_certificate`] takes the DER of one certificate apart, and hands on the bytes that its signature is over. What
+//! [`read_certificate`] takes the DER of one certificate apart, and gives the bytes that its signature is over. What
 //! it has of names, the key and extensions is raw there, and is read by calls of its own: [`read_key`],
 //! [`find_attribute`], [`find_extension`] and what an extension says. No signature is verified, no time compared, and
 //! no name compared by its text.

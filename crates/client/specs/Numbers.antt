@@ -1,4 +1,4 @@
--- The numbers of this product's refusals. Want of memory is none.
+-- The numbers of this product's refusals. Running out of memory has none.
 use Rattle.std.specs.Prelude.{ℕ, Option, Some, None}
 use Rattle.client.specs.declared.error.RequestError.{RequestError}
 use Rattle.client.specs.declared.error.RequestError.TheVariants as requests

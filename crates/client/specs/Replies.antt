@@ -32,7 +32,7 @@ abbrev pub IsNoAssertionBy : Profile → Option (List ℕ) → List ℕ → Erro
 IsNoAssertionBy profiles.Strict alone bs e = ReplyRefused kinds.GetAssertion bs e
 IsNoAssertionBy profile alone bs e = key.Refused (key.TellsAssertion alone) bs e
 
--- the same of a reply to makeCredential
+-- the same for a reply to makeCredential
 abbrev pub IsCreationBy : Profile → Creation → List ℕ → Type 0
 IsCreationBy profiles.Strict q bs = IsReply kinds.MakeCredential (creation_reply q) bs
 IsCreationBy profile q bs = (k : key.Creation) × key.IsReply key.TellsCreation k bs × (q ≡ creation_of_key k)

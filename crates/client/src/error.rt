@@ -7,7 +7,7 @@ ghost use Rattle.client.specs.declared.error.RequestError.TheVariants as request
 use std::alloc::{AllocError, AllocFailed};
 use thiserror::Error;
 
-/// Why an authenticator is asked nothing: the first of the refusals that applies, or want of memory.
+/// Why an authenticator is asked nothing: the first of the refusals that applies, or that memory ran out.
 #[derive(Clone, Copy, Debug, PartialEq, Eq, Drop, Error)]
 pub enum RequestError {
     /// Refusal 19: the text is no serialised origin of a URL of the scheme `https` whose host is a domain,
@@ -23,13 +23,13 @@ pub enum RequestError {
     /// Refusal 4: the request has more than 7,609 bytes.
     #[error("the request is longer than 7609 bytes")]
     TooLong,
-    /// A growth was refused for want of memory.
+    /// An allocation failed.
     #[error("out of memory")]
     Memory,
 }
 
 impl RequestError {
-    /// The refusal's number; want of memory has none.
+    /// The refusal's number; running out of memory has none.
     pub fn number(&self) -> Option<u8>
         ensures { result ≡ request_number self.now }
     {
@@ -65,13 +65,13 @@ pub enum ResponseError {
     /// Refusal 1: no bytes are this attestation object.
     #[error("the attestation object has no encoding")]
     Unfit,
-    /// A growth was refused for want of memory.
+    /// An allocation failed.
     #[error("out of memory")]
     Memory,
 }
 
 impl ResponseError {
-    /// The refusal's number; want of memory has none.
+    /// The refusal's number; running out of memory has none.
     pub fn number(&self) -> Option<u8>
         ensures { result ≡ response_number self.now }
     {

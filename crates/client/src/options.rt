@@ -31,7 +31,7 @@ pub struct CreationOptions<'a> {
     pub user_name: &'a str,
     /// The user's name for display, any text.
     pub display_name: &'a str,
-    /// The algorithms of which one is wanted, the best first, of any count.
+    /// The algorithms that may be used, the best first, of any count.
     pub algs: &'a [Alg],
     /// The ids of credentials none of which may be there already: at most 8, of 1 to 64 bytes each.
     pub exclude: &'a [&'a [u8]],

@@ -13,7 +13,7 @@ use url::{ParseError, Url};
 /// The most bytes of an origin.
 const MAX_ORIGIN_LENGTH: usize = 1024;
 
-/// What `url` refuses is a fault of the text, or a want of memory.
+/// What `url` refuses is a fault of the text, or that memory ran out.
 fn refusal_of(error: ParseError) -> RequestError
     ensures { IsFault error result }
 {
@@ -23,7 +23,7 @@ fn refusal_of(error: ParseError) -> RequestError
     }
 }
 
-/// Whether the URL's origin is serialised as this text; it fails only for want of memory.
+/// Whether the URL's origin is serialised as this text; it fails only if memory runs out.
 fn is_serialised(alloc: Global, url: &Url, text: &str) -> Result<bool, RequestError>
     ensures same { IfOk result (λ same. IsTrue same ↔ (ascii_serialization (origin_of url.now) ≡ text.now)) }
     ensures memory { IfErr result (λ e. e ≡ errors.Memory) }

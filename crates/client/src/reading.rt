@@ -74,7 +74,7 @@ fn open_creation(alloc: Global, message: &[u8]) -> Result<CreationReply, Error>
 ///
 /// The strict profile reads as [`ctap_replies::read_assertion`]. The others read as [`ctap_open_replies::read_assertion`]:
 /// members that are not listed are passed over, and the credential may be left out where `listed` is the id of the one
-/// credential of the request's allow list. Refused as these are, never for want of memory.
+/// credential of the request's allow list. Refused as these are, never because memory ran out.
 pub fn read_assertion<'a>(
     profile: Profile,
     message: &'a [u8],

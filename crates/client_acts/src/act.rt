@@ -23,7 +23,7 @@ pub enum Aim {
 pub struct Begin {
     /// What it is to do.
     pub aim: Aim,
-    /// Random bytes, by which the key's answer is told from those to others.
+    /// Random bytes, which distinguish the key's answer from those to others.
     pub nonce: [u8; 8],
     /// Whether the key may verify its user by itself.
     pub built_in: bool,

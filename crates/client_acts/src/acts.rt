@@ -69,24 +69,24 @@ Acts that begin, and drop what was under way:
   information  nonce                                what the key tells of itself
   set_pin      new_pin, nonce                       the first PIN
   change_pin   new_pin, nonce                       the old one is asked for
-`nonce` is 8 random bytes; `built_in` false: the key is not to verify its user by itself.
+`nonce` is 8 random bytes; `built_in` false: do not use the key's own user verification.
 
 Acts that go on:
-  packet       packet                               one of 64 bytes, that the key sent
+  packet       packet                               64 bytes that the key sent
   pin          pin
-  computed     bytes                                what `asks` asked for
+  computed     bytes                                the result that `asks` asked for
   choose       number                               which of `credentials`, from 0
   cancel
 
 States:
-  waits        read a packet of the key; `keepalive` where the key is at work
-  touch        the same, and the user is to touch the key
+  waits        read a packet from the key; `keepalive` if the key is at work
+  touch        as `waits`; ask the user to touch the key
   needs_pin    retries (or null), wrong             whether a PIN was just refused
   asks         operation, key, iv, text             one of agree, derive, seal, encrypt, decrypt, authenticate
   choose       credentials                          each id, user_id, user_name, display_name
   registered   response                             as the browser's credential.toJSON()
   signed_in    response
-  information  what the key told
+  information  what the key reports of itself
   pin_set
   refused      name, text, [status, code]           the act is over
   error        text                                 the line had no effect

@@ -17,7 +17,7 @@ use std::alloc::Global;
 /// The inputs of extensions that are read.
 #[derive(Clone, Copy, Debug, Drop)]
 pub struct Extensions {
-    /// `credProps` (WebAuthn Level 2, section 10.4): whether it is to be told that the credential is discoverable.
+    /// `credProps` (WebAuthn Level 2, section 10.4): whether the answer says that the credential is discoverable.
     pub cred_props: bool,
     /// `credentialProtectionPolicy` (CTAP 2.1, section 12.1): 1, 2 or 3.
     pub cred_protect: Option<u64>,

@@ -84,7 +84,7 @@ fn act_in(alloc: Global, line: &Value) -> Result<Act, LineError>
 }
 
 /// Reads a line: an object with a number, the name of an `act`, and the members that the act takes. Of a line that is not read
-/// the number is told too, where it can be read.
+/// the number is answered too, where it can be read.
 pub fn read_line(alloc: Global, line: &[u8]) -> Result<Line, LineFault>
     // What is read is what the line says,
     ensures found { IfOk result (λ l. Reads line.now l.id l.act) }

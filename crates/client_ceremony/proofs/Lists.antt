@@ -11,7 +11,7 @@ pub any_lent : (p : List ℕ → Bool) (xs : List (Bor (List ℕ))) → list_any
 any_lent p [] = refl
 any_lent p (x ∷ xs) = rw (any_lent p xs) refl
 
--- one more is told
+-- one more is answered
 pub each_more : (qs : List Signed) (rs : List (List ℕ)) (q : Signed) (r : List ℕ) → EachTells qs rs → IsReply (TellsAssertion None) q r
     → EachTells (qs ++ (q ∷ [])) (rs ++ (r ∷ []))
 each_more [] [] q r each is = (is, tt)

@@ -30,7 +30,7 @@ pub then_more : {V : Type 0} {G G' : V → Type 0} {H H' : Halt → Type 0} {F :
 then_more given halted (at_once p) = at_once (halted p)
 then_more given halted (later v g f) = later v (given v g) f
 
--- a step is not want of memory
+-- a step is not that memory ran out
 pub steps : (P : Halt → Type 0) (n : ℕ) (s : Step) → OrMemory P (halts.Steps n s) → P (halts.Steps n s)
 steps P n s (no_memory e) = absurd cc
 steps P n s (so p) = p

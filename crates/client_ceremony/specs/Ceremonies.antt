@@ -52,7 +52,7 @@ SetsNot info is_set f =
     (pin_set_fault is_set (option_told (codes "clientPin") info) ≡ Some f)
     ⊎ ((pin_set_fault is_set (option_told (codes "clientPin") info) ≡ None) × (protocol_told info ≡ None) × (f ≡ refusals.NoProtocol))
 
--- minPINLength, which is 4 where it was not told (6.4)
+-- minPINLength, which is 4 where it was not given (6.4)
 abbrev pub min_length : Info → ℕ
 min_length info = unwrap_or info.min_pin_length 4
 
@@ -75,7 +75,7 @@ abbrev pub SetsPin : Facts → Info → List ℕ → Halt → Type 0
 SetsPin k info new =
     Then (SetsBy info false) (Ends (SetsNot info false)) (λ p. Then (HasPoint k 1 p) (NoPoint k 1 p) (SetsTo k info new p))
 
--- the same of changePIN
+-- the same for changePIN
 abbrev pub ChangesBy : Facts → Info → List ℕ → Protocol → List ℕ → PublicPoint → Halt → Type 0
 ChangesBy k info new p pin peer h =
     StopsBy 3 (NoRequest k.answers p (IsChangePinAsk k.answers p peer pin new) (λ f. pin_fault (min_length info) new ≡ Some f) (IsChangePin k.answers p peer pin new)) h
@@ -102,7 +102,7 @@ HaltsAt w k = Then (HasInfo k) (NoInfo k) (λ info. Follows k info w)
 abbrev pub IsNext : Wish → Facts → Step → Type 0
 IsNext w k s = (sent : ℕ) × HaltsAt w k (halts.Steps sent s) × (length k.replies ≤ sent)
 
--- why it ends; want of memory may come always
+-- why it ends; running out of memory may come always
 abbrev pub IsRefusal : Wish → Facts → Refusal → Type 0
 IsRefusal w k f =
     (f ≡ refusals.Memory)

@@ -120,7 +120,7 @@ OneUntold rs f =
     (qs : List Signed) × (front : List (List ℕ)) × (r : List ℕ) × (back : List (List ℕ)) × (rs ≡ front ++ (r ∷ back))
     × EachTells qs front × Unread (TellsAssertion None) r f
 
--- all were told; the user has not chosen, or chose this, or none of them
+-- all have come; the user has not chosen, or chose this, or none of them
 abbrev pub Choice : ℕ → List Signed → Option ℕ → Halt → Type 0
 Choice sent all None h = (v : Vec KeyAssertion Global) × (map assertion_view v.items ≡ all) × (h ≡ halts.Steps sent (steps.Chooses v))
 Choice sent all (Some i) h =

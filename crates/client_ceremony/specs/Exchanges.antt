@@ -45,6 +45,6 @@ Told k n P tells q = (r : List ℕ) × Replied k n P r × IsReply tells q r
 abbrev pub Unread : {Q : Type 0} → (Q → Item → Type 0) → List ℕ → Refusal → Type 0
 Unread tells r f = (e : Error) × Refused tells r e × (f ≡ of_reply e)
 
--- why nothing is told yet
+-- why nothing is answered yet
 abbrev pub Untold : {Q : Type 0} → Facts → ℕ → (List ℕ → Type 0) → (Q → Item → Type 0) → Halt → Type 0
 Untold k n P tells h = Sends k n P h ⊎ ((r : List ℕ) × Replied k n P r × Ends (Unread tells r) h)

@@ -8,12 +8,12 @@ use Rattle.client_ceremony.specs.declared.refusal.Refusal.{Refusal}
 use Rattle.client_ceremony.specs.declared.refusal.Refusal.TheVariants as refusals
 use Rattle.client_ceremony.specs.declared.verified.Verified.{Verified as Held}
 
--- memory is wanting, or this
+-- memory ran out, or this
 pub data OrMemory (P : Halt → Type 0) (h : Halt) : Type 0 where
   no_memory : h ≡ halts.Refuses refusals.Memory → OrMemory P h
   so : P h → OrMemory P h
 
--- the same of refusals
+-- the same for refusals
 pub data OrNoRoom (P : Refusal → Type 0) (f : Refusal) : Type 0 where
   no_room : f ≡ refusals.Memory → OrNoRoom P f
   for : P f → OrNoRoom P f

@@ -13,7 +13,7 @@ use Rattle.client_ceremony.specs.declared.wish.Creating.{Creating}
 use Rattle.client_ceremony.specs.declared.wish.Requirement.{Requirement}
 use Rattle.client_ceremony.specs.declared.wish.Requirement.TheVariants as requirements
 
--- ---- what was told
+-- ---- what the key said of itself
 
 abbrev pub is_version : List ℕ → Bool
 is_version v = bytes_eq v (codes "FIDO_2_0") || (bytes_eq v (codes "FIDO_2_1_PRE") || bytes_eq v (codes "FIDO_2_1"))
@@ -25,7 +25,7 @@ is_fido2 info = list_any is_version info.versions
 abbrev pub option_told : List ℕ → Info → Option Bool
 option_told name info = option_and_then (value_of name) info.options
 
--- an option that was told as true
+-- an option that the key gave as true
 abbrev pub is_on : List ℕ → Info → Bool
 is_on name info = unwrap_or (option_told name info) false
 

@@ -123,7 +123,7 @@ fn pin_message(
     }
 }
 
-/// What is told to a subcommand, before which so many messages are sent.
+/// What is answered to a subcommand, before which so many messages are sent.
 fn pin_told<'a>(
     alloc: Global,
     known: &Known<'a>,

@@ -29,7 +29,7 @@ pub(crate) fn is_fido2(info: &KeyInfo<'_>) -> bool
     any_version(&info.versions)
 }
 
-/// Whether an option was told as true.
+/// Whether the key gave an option as true.
 pub(crate) fn is_on(info: &KeyInfo<'_>, name: &str) -> bool
     ensures { result ≡ is_on name.now (info_view info.now) }
 {

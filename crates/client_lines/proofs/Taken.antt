@@ -12,7 +12,7 @@ use Rattle.client_lines.specs.declared.fault.Fault.TheVariants as faults
 use Rattle.client_lines.specs.declared.fault.NotTaken.{NotTaken}
 use Rattle.client_lines.specs.declared.machine.Client.{Client}
 
--- what is told of the act is told of the client
+-- what is answered for the act is answered for the client
 pub takes : (old : Client) (c d : Ceremony) (further : Further) (r : Result Told NotTaken) → old.ceremony ≡ Some c
     → IfOk r (λ told. TakesFurther c further told d) → IfOk r (λ told. Takes old further told (record { ceremony = Some d }))
 takes old c d further (Ok told) e taken = (c, e, d, taken, refl)

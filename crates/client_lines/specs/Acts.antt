@@ -41,12 +41,12 @@ abbrev pub Receives : ℕ → List Packet → Facts → Knowledge → Type 0
 Receives c ps f new = (knowledge_facts new ≡ f)
     ⊎ ((m : List ℕ) × Carries c ps CTAPHID_CBOR m × Knows (record f { replies = f.replies ++ m ∷ [] }) new)
 
--- the same of a packet that came while a channel is asked for, or on the channel
+-- the same for a packet that came while a channel is asked for, or on the channel
 abbrev pub ReceivesBy : Link → Packet → Facts → Knowledge → Type 0
 ReceivesBy (Opening opener) p f new = Knows f new
 ReceivesBy (Open channel) p f new = (ps : List Packet) → Got channel.cid ps channel.shown → Receives channel.cid (ps ++ p ∷ []) f new
 
--- an answer of the host to what was asked; want of memory may leave it out
+-- an answer of the host to what was asked; running out of memory may leave it out
 abbrev pub Adds : Awaits → List ℕ → Facts → Knowledge → Type 0
 Adds (awaits.Computed ask) bytes f new =
     (knowledge_facts new ≡ f) ⊎ Knows (record f { answers = f.answers ++ ((ask_view ask, bytes) ∷ []) }) new
@@ -70,7 +70,7 @@ abbrev pub SendsBy : Link → Knowledge → Told → Type 0
 SendsBy (Opening opener) k told = told.send.items ≡ []
 SendsBy (Open channel) k told = SendsOn channel.cid k told
 
--- what took the act further, what is told, and the act from then on
+-- what took the act further, what is answered, and the act from then on
 pub record TakesFurther (old : Ceremony) (further : Further) (told : Told) (new : Ceremony) : Type 0 where
   pub purpose : new.knowledge.purpose ≡ old.knowledge.purpose
   pub facts : Learns old further (knowledge_facts old.knowledge) new.knowledge

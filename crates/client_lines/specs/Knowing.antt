@@ -16,7 +16,7 @@ use Rattle.client_lines.specs.declared.purpose.SignIn.{SignIn}
 abbrev pub replies_of : Knowledge → List (List ℕ)
 replies_of k = map (λ v. v.items) k.replies.items
 
--- what the client's machine is told
+-- what the client's machine is answered
 abbrev pub knowledge_facts : Knowledge → Facts
 knowledge_facts k = record {
   replies = replies_of k;

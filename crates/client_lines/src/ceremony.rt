@@ -105,7 +105,7 @@ fn receive(
 }
 
 impl Ceremony {
-    /// Begins an act: what is told asks the key for a channel.
+    /// Begins an act: what is answered asks the key for a channel.
     pub(crate) fn begin(alloc: Global, begin: Begin) -> Result<(Ceremony, Told), Refused>
         ensures { IfOk result (λ r. Begins begin r.0 r.1) }
     {
@@ -133,7 +133,7 @@ impl Ceremony {
         }
     }
 
-    /// What came of it: what is told, and what is waited for from now on.
+    /// What came of it: what is answered, and what is waited for from now on.
     fn settle(&mut self, alloc: Global, came: Result<(Told, Awaits), Refused>) -> Told
         requires { IfOk came (λ r. SendsBy self.old.link self.old.knowledge r.0) }
         ensures sent { SendsBy self.new.link self.new.knowledge result }
@@ -246,7 +246,7 @@ impl Ceremony {
         }
     }
 
-    /// The user cancels: the key is told where it is at work, and else the act is over.
+    /// The user cancels: the key is answered where it is at work, and else the act is over.
     fn cancel(&self, alloc: Global) -> Told
         ensures { TakesFurther self.now furthers.Cancel result self.now }
     {

@@ -11,7 +11,7 @@ pub enum NotTaken {
     /// The act that is under way waits for something else.
     #[error("the act that is under way does not wait for this")]
     NotAwaited,
-    /// The number is none of those that were told.
+    /// The number is none of those that were given.
     #[error("there is no credential of this number")]
     NoSuchCredential,
 }

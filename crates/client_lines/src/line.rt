@@ -18,7 +18,7 @@ use std::alloc::{AllocError, Global};
 pub(crate) struct Answered {
     /// The line's number; nothing where it can't be read.
     pub id: Option<u64>,
-    /// What is told, or why the line had no effect.
+    /// What is answered, or why the line had no effect.
     pub told: Result<Told, Fault>,
 }
 
@@ -52,7 +52,7 @@ fn carry_out(alloc: Global, client: &mut Client, line: &[u8]) -> Answered
 /// Answers a line, of which its end is no part, by one line, with its end. Its `id` is null where the line that it answers has no
 /// number that can be read.
 pub fn answer_line(alloc: Global, client: &mut Client, line: &[u8]) -> Result<String, AllocError>
-    // What is told is what is done of the act; and an error changes nothing. The text is that of what is told and of nothing
+    // What is answered is what is done of the act; and an error changes nothing. The text is that of what is answered and of nothing
     // else, with the line's number, and it ends in a line feed.
     ensures { (id : Option ℕ) × (told : Result Told Cause) × Answers client.old line.now id told client.new
         × IfOk result (λ text. IsWritten client.new id told (string_bytes text)) }

@@ -37,7 +37,7 @@ pub(crate) enum Awaits {
 enum Next {
     /// This message is to be sent.
     Sends(Vec<u8>),
-    /// This is to be told, and then waited for.
+    /// This is answered, and then waited for.
     Tells(Answer, Awaits),
 }
 
@@ -143,7 +143,7 @@ fn done(alloc: Global, channel: &mut Channel, next: Next) -> Result<(Told, Await
     }
 }
 
-/// Takes an act as far as it goes by what is known: what is told, and what is then waited for.
+/// Takes an act as far as it goes by what is known: what is answered, and what is then waited for.
 pub(crate) fn go_on(
     alloc: Global,
     knowledge: &mut Knowledge,

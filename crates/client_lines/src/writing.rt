@@ -189,7 +189,7 @@ fn answered(
     Ok(Value::Object(out))
 }
 
-/// The object of what is told.
+/// The object of what is answered.
 fn told_value(
     alloc: Global,
     asked: Option<&Ask>,

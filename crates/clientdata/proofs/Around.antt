@@ -204,7 +204,7 @@ pub passed-large : (depth : ℕ) (s : List ℕ) (ts : List Token) → is_some (n
 unfolding passed
 passed-large depth s ts e = ap (λ o. left (converted of_json o)) (value_is depth _) ∙ refused_number (number_of s) ts e
 
--- an end, a key and what is no JSON begin no value
+-- an end, a key and text that is not JSON begin no value
 pub passed-end_object : (depth : ℕ) (ts : List Token) → passed depth (Token.end_object ∷ ts) ≡ None
 unfolding passed
 passed-end_object depth ts = ap (λ o. left (converted of_json o)) (value_is depth _)

@@ -1,4 +1,4 @@
--- Texts of which each byte stands for itself between quotation marks; the texts of challenges are.
+-- Texts in which each byte stands for itself between quotation marks; the texts of challenges are.
 use Rattle.std.proofs.Common.{◌≡◌, ◌<◌, ◌&&◌, ◌+◌, ◌*◌, ◌/◌, ◌%◌, Bool, true, false, not, ℕ, zero, suc, List, [], ◌∷◌, ◌++◌, refl, append-nil, arith}
 use Rattle.std.proofs.Common.{slice_index}
 use Rattle.std.specs.List.{AllByRecursion}

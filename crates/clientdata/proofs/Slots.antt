@@ -75,7 +75,7 @@ pub whole_nothing : (all : List Token) → all ≡ [] → option_and_then seen_i
 unfolding whole
 whole_nothing all e = ap (option_and_then seen_in) (refused (value 127 all) (nothing_there 127 all e))
 
--- what is no object is no client data
+-- anything but an object is not client data
 no_object : (d : Data) → ((k : List ℕ) → get k d ≡ None) → seen_in d ≡ None
 no_object d none = ap (λ o. option_and_then (λ kind.
     option_and_then (λ challenge.

@@ -26,7 +26,7 @@ whole kind challenge origin cross plain =
     (quoted origin)
     (codes ",\"crossOrigin\":") (truth_of cross) (codes "}")
 
--- what is told of bytes that begin up to the challenge, or do not, and of a challenge after them
+-- what is read of bytes that begin up to the challenge, or do not, and of a challenge after them
 module _ (kind : CeremonyType) (challenge bytes front text : List ℕ)
     (ef : front ≡ before_challenge kind) (et : text ≡ challenge_text_of challenge) (plain : ArePlain text) where
   pieces : (origin : List ℕ) (cross : Bool)

@@ -42,7 +42,7 @@ abbrev pub crossing_of : Bool → CrossOrigin
 crossing_of false = cross.False
 crossing_of true = cross.True
 
--- what is no truth value is something else
+-- anything but a truth value is something else
 abbrev pub truth_crossing : Option Bool → CrossOrigin
 truth_crossing None = cross.Other
 truth_crossing (Some value) = crossing_of value

@@ -3,7 +3,7 @@ use Rattle.std.specs.Prelude.{ℕ, Option, Some, None}
 use Rattle.clientdata.specs.declared.error.Error.{Error}
 use Rattle.clientdata.specs.declared.error.Error.TheVariants.{Unreadable, Memory}
 
--- a refusal's number; want of memory has none
+-- a refusal's number; running out of memory has none
 abbrev pub refusal_number : Error → Option ℕ
 refusal_number Unreadable = Some 16
 refusal_number Memory = None

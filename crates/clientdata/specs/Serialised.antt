@@ -37,7 +37,7 @@ client_data_text kind challenge origin cross_origin = client_data_front kind cha
 abbrev pub MayCross : Bool → Bool → Type 0
 MayCross taken cross = taken ≡ false → cross ≡ false
 
--- the same of a record: the text without its last brace, and whole
+-- the same for a record: the text without its last brace, and whole
 abbrev pub front_of : ClientData → List ℕ
 front_of r = client_data_front r.kind r.challenge.items (string_bytes r.origin) r.cross_origin
 

@@ -14,13 +14,13 @@ pub enum Error {
     /// mark, or are no JSON object whose `type`, `challenge` and `origin` are texts.
     #[error("the client data can't be read")]
     Unreadable,
-    /// A growth was refused for want of memory.
+    /// An allocation failed.
     #[error("out of memory")]
     Memory,
 }
 
 impl Error {
-    /// The refusal's number; want of memory has none.
+    /// The refusal's number; running out of memory has none.
     pub fn number(&self) -> Option<u8>
         ensures { result ≡ refusal_number self.now }
     {

@@ -30,7 +30,7 @@ impl Model for ExpectedOrigin {
 }
 
 impl ExpectedOrigin {
-    /// This origin. It fails only for want of memory.
+    /// This origin. It fails only if memory runs out.
     pub fn new(alloc: Global, origin: &str) -> Result<ExpectedOrigin, AllocError>
         ensures { IfOk result (λ o. o ≡ origin.now) }
     {

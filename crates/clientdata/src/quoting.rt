@@ -8,7 +8,7 @@ use std::alloc::{AllocError, Global};
 
 /// A text between quotation marks, as client data have texts: a quotation mark and a backslash after a
 /// backslash, a code point below U+0020 as `\u` and four lower-case hex digits, every other one in
-/// UTF-8 (WebAuthn Level 2, section 5.8.1.1). It fails only for want of memory.
+/// UTF-8 (WebAuthn Level 2, section 5.8.1.1). It fails only if memory runs out.
 pub fn quoted_text(alloc: Global, text: &str) -> Result<String, AllocError>
     ensures { IfOk result (λ whole. string_bytes whole ≡ quoted text.now) }
 {

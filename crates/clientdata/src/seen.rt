@@ -79,7 +79,7 @@ pub struct Seen {
 pub fn read(alloc: Global, bytes: &[u8]) -> Result<Seen, Error>
     ensures ok { IfOk result (λ seen. seen_of bytes.now ≡ Some seen) }
 
-    // Nothing is read exactly where there is nothing, want of memory aside.
+    // Nothing is read exactly where there is nothing, unless memory runs out.
     ensures unreadable { IsErrOf result Error.Unreadable → seen_of bytes.now ≡ None }
     ensures nothing { seen_of bytes.now ≡ None → IsErr result }
     ensures no_text { is_text bytes.now ≡ false → IsErrOf result Error.Unreadable }

@@ -11,7 +11,7 @@ use crate::record::ClientData;
 use std::alloc::{AllocError, Global};
 
 /// The text of client data (WebAuthn Level 2, section 5.8.1.1): the members `type`, `challenge`,
-/// `origin` and `crossOrigin` in this order, without white space. It fails only for want of memory.
+/// `origin` and `crossOrigin` in this order, without white space. It fails only if memory runs out.
 pub fn serialise(alloc: Global, client_data: &ClientData) -> Result<String, AllocError>
     ensures { IfOk result (λ text. string_bytes text ≡ text_of client_data.now) }
 {
@@ -22,7 +22,7 @@ pub fn serialise(alloc: Global, client_data: &ClientData) -> Result<String, Allo
 
 /// Limited verification (WebAuthn Level 2, section 5.8.1.2): true exactly if the bytes begin with
 /// the text of the record without its last `}`, and the next byte is `}` or `,`. What follows isn't
-/// looked at. It fails only for want of memory.
+/// looked at. It fails only if memory runs out.
 pub fn limited_verify(
     alloc: Global,
     bytes: &[u8],

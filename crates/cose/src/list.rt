@@ -44,7 +44,7 @@ impl ListScheme {
         }
     }
 
-    /// Lists a signature as valid for the message under the key. Where memory is wanting, none is
+    /// Lists a signature as valid for the message under the key. If memory runs out, none is
     /// listed.
     pub fn add(&mut self, key: CoseKey, message: &[u8], sig: &[u8]) -> Result<(), AllocError>
         ensures ok { OnOk result (self.new ≡ self.old ++ (key, message.now, sig.now) ∷ []) }

@@ -32,7 +32,7 @@ pub trait Signer: Verifier {
 
     /// Appends a signature, of 1 to 128 bytes, of the message that the two parts are when the
     /// second is written after the first. It is valid under the public key of the same algorithm
-    /// and secret. Where memory is wanting, nothing is appended.
+    /// and secret. If memory runs out, nothing is appended.
     fn sign(
         &self,
         alg: SigningAlg,

@@ -1,4 +1,4 @@
--- The numbers of this product's refusals. Want of memory is none, and a request's status is a byte of CTAP.
+-- The numbers of this product's refusals. Running out of memory has none, and a request's status is a byte of CTAP.
 use Rattle.std.specs.Prelude.{◌≡◌, ◌⊎◌, ℕ, Option, Some, None}
 use Rattle.ctap_encoding.specs.declared.error.Error.{Error}
 use Rattle.ctap_encoding.specs.declared.error.Error.TheVariants as errors

@@ -21,7 +21,7 @@ abbrev pub Gives : {X Y : Type 0} → (X → Y) → Result X MapError → Option
 Gives view (Ok x) read = read ≡ Some (view x)
 Gives view (Err e) read = Fails e read
 
--- the same of a function that takes no memory
+-- the same for a function that takes no memory
 abbrev pub Yields : {X Y E : Type 0} → (X → Y) → Result X E → Option Y → Type 0
 Yields view (Ok x) read = read ≡ Some (view x)
 Yields view (Err e) read = read ≡ None

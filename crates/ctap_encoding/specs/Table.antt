@@ -24,7 +24,7 @@ mutual
     record_of : Members → Holds
     -- with a byte or an item, else there is this fault
     not_empty : Fault → Holds → Holds
-    -- of so many bytes or items, from low to high, else there is this fault
+    -- of this many bytes or items, from low to high, else there is this fault
     sized : ℕ → ℕ → Fault → Holds → Holds
 
   -- the key, whether it is required, and what it holds

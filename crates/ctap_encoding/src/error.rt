@@ -35,7 +35,7 @@ pub enum Error {
 }
 
 impl Error {
-    /// The refusal's number; want of memory and a request's status have none.
+    /// The refusal's number; running out of memory and a request's status have none.
     pub fn number(&self) -> Option<u8>
         ensures { result ≡ refusal_number self.now }
     {

@@ -27,7 +27,7 @@ fn size_of(value: &View<'_>) -> u64
     }
 }
 
-/// Refused as [`Shape`] unless the value has so many bytes or items, from low to high.
+/// Refused as [`Shape`] unless the value has this many bytes or items, from low to high.
 pub fn sized(value: &View<'_>, low: u64, high: u64) -> Result<(), Shape>
     ensures { Yields (λ u. u) result (checked (is_within low high (shown value.now))) }
 {
@@ -124,7 +124,7 @@ pub fn bytes<'a>(value: &View<'a>) -> Result<&'a [u8], Shape>
     }
 }
 
-/// The text, copied out; or want of memory.
+/// The text, copied out; or that memory ran out.
 pub fn text(alloc: Global, value: &View<'_>) -> Result<String, MapError>
     ensures { Gives (λ s. string_bytes s) result (text_in (shown value.now)) }
 {

@@ -29,6 +29,6 @@ pub enum Holds {
     Record(&'static [(MapKey<'static>, bool, Holds)]),
     /// With a byte or an item; else there is this fault.
     NotEmpty(Fault, &'static Holds),
-    /// Of so many bytes or items, from the first to the second number; else there is this fault.
+    /// Of this many bytes or items, from the first to the second number; else there is this fault.
     Sized(u64, u64, Fault, &'static Holds),
 }

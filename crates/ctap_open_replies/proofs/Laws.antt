@@ -21,9 +21,9 @@ use Rattle.ctap_open_replies.specs.Reading.{open_in, or_listed, user_of, asserti
 use Rattle.ctap_open_replies.specs.Replies.{HasValue, HasNoValue}
 use Rattle.ctap_open_replies.proofs.Telling.{is_told, is_read}
 
--- ---- where what is told is what is read
+-- ---- where what is answered is what is read
 
--- of each value at most one reply is told, and its content is what is read
+-- of each value at most one reply is answered, and its content is what is read
 pub record IsExact {Q C : Type 0} (tells : Q → Item → Type 0) (read : Item → Option C) (content : Q → C) : Type 0 where
   pub exact : (q : Q) (v : Item) → tells q v → read v ≡ Some (content q)
   pub one : (q r : Q) → content q ≡ content r → q ≡ r
@@ -152,7 +152,7 @@ assertion_back told q = ap (λ (u : Option User). record {
   large_blob_key = q.large_blob_key;
 }) (users_back q.user)
 
--- what is told is read
+-- what is answered is read
 exact_told : (alone told : Option (List ℕ)) (q : Assertion) → IsCredential alone told q.credential
     → option_map (assertion_of (assertion_content told q)) (or_listed alone (told_in (assertion_content told q))) ≡ Some q
 exact_told alone (Some id) q is = ap Some (ap (assertion_of (assertion_content (Some id) q)) (sym is) ∙ assertion_back (Some id) q)
@@ -164,7 +164,7 @@ exact_assertion alone = record {
   one = λ q r e. e;
 }
 
--- and what is read is told
+-- and what is read is answered
 told_by : (alone : Option (List ℕ)) (v : Item) (d : Option (Contents credential_members)) (auth signature : List ℕ) (u : Option (Contents user_members))
     (n : Option ℕ) (s : Option Bool) (b : Option (List ℕ)) (q : Assertion) → Tells (record_of assertion_members) (d, (auth, (signature, (u, (n, (s, (b, tt))))))) v
     → option_map (assertion_of (d, (auth, (signature, (u, (n, (s, (b, tt)))))))) (or_listed alone (told_in (d, (auth, (signature, (u, (n, (s, (b, tt))))))))) ≡ Some q

@@ -22,7 +22,7 @@ IsTold h = (x : Item) (c : Content h) → open_in h x ≡ Some c → Tells h c x
 abbrev AreTold : Members → Type 0
 AreTold ms = (x : Item) (c : Contents ms) → open_members ms x ≡ Some c → TellsMembers ms c x
 
--- ---- what is read is told
+-- ---- what is read is answered
 
 checked_of : {A : Type 0} (b : Bool) (o : Option A) (c : A) → (checked b >>= λ u. o) ≡ Some c → (b ≡ true) × (o ≡ Some c)
 checked_of true o c e = (refl, e)
@@ -110,7 +110,7 @@ mutual
   are_told (listed k true h ms) x c e = required_told k h ms (is_told h) (are_told ms) x c e
   are_told (listed k false h ms) x c e = optional_told k h ms (is_told h) (are_told ms) x c e
 
--- ---- what is told is read
+-- ---- what is answered is read
 
 abbrev IsRead : Holds → Type 0
 IsRead h = (x : Item) (c : Content h) → Tells h c x → open_in h x ≡ Some c

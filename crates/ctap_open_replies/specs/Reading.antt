@@ -32,7 +32,7 @@ abbrev mutual
 
 -- ---- a reply to getAssertion
 
--- the id that was told, or else the one that was listed
+-- the id that was given, or else the one that was listed
 abbrev pub or_listed : Option (List ℕ) → Option (List ℕ) → Option (List ℕ)
 or_listed alone (Some told) = Some told
 or_listed alone None = alone

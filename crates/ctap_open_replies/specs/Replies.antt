@@ -1,5 +1,5 @@
 -- Replies of keys: CTAP 2.1, sections 6.1.2, 6.2.2, 6.3 and 6.4, in the message encoding of section 8. Members
--- that are not listed may be there, in each map but the attestation statement and the options, which are told whole.
+-- that are not listed may be there, in each map but the attestation statement and the options, which are given whole.
 use Rattle.std.specs.Prelude.{◌≡◌, ◌≢◌, ℕ, List, [], ◌∷◌, map, Bool, true, false, Option, Some, None, option_map, ℤ, codes}
 use Rattle.ccbor.specs.Item as of
 use Rattle.ccbor.specs.Item.{Item}

@@ -70,7 +70,7 @@ pub fn value_of(bytes: &[u8]) -> Result<View<'_>, Error>
 pub fn read_creation(alloc: Global, bytes: &[u8]) -> Result<KeyCreation, Error>
     ensures found { IfOk result (λ r. IsReply TellsCreation (creation_view r) bytes.now) }
     ensures refused { IfErr result (λ e. Refused TellsCreation bytes.now e) }
-    // So bytes that are refused, but for want of memory, are no such reply.
+    // So bytes that are refused, unless memory ran out, are no such reply.
     ensures none { IfErr result (λ e. e ≢ errors.Memory → (q : Creation) → ReplyOf (TellsCreation q) bytes.now → ⊥) }
 {
     // As in `value_of`.
@@ -89,7 +89,7 @@ pub fn read_creation(alloc: Global, bytes: &[u8]) -> Result<KeyCreation, Error>
 /// and none where that list has more or is absent, as with getNextAssertion: a reply may leave its credential out
 /// only where there is one, and it is that one then.
 ///
-/// Refused as [`read_creation`] refuses, but never for want of memory; `Shape` too where the credential is left out
+/// Refused as [`read_creation`] refuses, but never because memory ran out; `Shape` too where the credential is left out
 /// and none was listed alone.
 pub fn read_assertion<'a>(
     bytes: &'a [u8],
@@ -119,7 +119,7 @@ pub fn read_assertion<'a>(
 pub fn read_info(alloc: Global, bytes: &[u8]) -> Result<KeyInfo<'_>, Error>
     ensures found { IfOk result (λ r. IsReply TellsInfo (info_view r) bytes.now) }
     ensures refused { IfErr result (λ e. Refused TellsInfo bytes.now e) }
-    // So bytes that are refused, but for want of memory, are no such reply.
+    // So bytes that are refused, unless memory ran out, are no such reply.
     ensures none { IfErr result (λ e. e ≢ errors.Memory → (q : Info) → ReplyOf (TellsInfo q) bytes.now → ⊥) }
 {
     // As in `value_of`.

@@ -12,7 +12,7 @@ use Rattle.ctap_open_requests.specs.declared.error.RequestError.TheVariants as e
 abbrev pub value_of : List ℕ → List (List ℕ × Bool) → Option Bool
 value_of name options = option_map (λ o. o.1) (find (λ o. bytes_eq o.0 name) options)
 
--- the option's value as it was told, or else its default
+-- the option's value as it was given, or else its default
 abbrev pub told_option : List ℕ → Bool → Info → Bool
 told_option name default info = unwrap_or (option_and_then (value_of name) info.options) default
 
@@ -30,7 +30,7 @@ offers info o =
 
 -- ---- sizes: maxCredentialCountInList, maxCredentialIdLength, maxMsgSize
 
--- more than the limit that was told, if one was
+-- more than the limit that was given, if one was
 abbrev pub is_over : Option ℕ → ℕ → Bool
 is_over None n = false
 is_over (Some limit) n = nat_lt limit n
@@ -38,7 +38,7 @@ is_over (Some limit) n = nat_lt limit n
 abbrev pub has_long_id : Info → List (List ℕ) → Bool
 has_long_id info ids = list_any (λ id. is_over info.max_credential_id_length (length id)) ids
 
--- 1,024 where it was not told
+-- 1,024 where it was not given
 abbrev pub max_message : Info → ℕ
 max_message info = unwrap_or info.max_msg_size 1024
 

@@ -40,7 +40,7 @@ pub fn option_value(info: &KeyInfo<'_>, name: &str) -> Option<bool>
     }
 }
 
-/// The option's value as it was told, or else its default.
+/// The option's value as it was given, or else its default.
 fn told_option(info: &KeyInfo<'_>, name: &str, default: bool) -> bool
     ensures { result ≡ told_option name.now default (info_view info.now) }
 {

@@ -224,12 +224,12 @@ fn assertion_bytes(
 /// and one canonical map.
 ///
 /// Refused by the first of these that applies: [`RequestError::OptionNotOffered`] of an option that is asked for
-/// as true, and that the key did not tell as true (`up` is true where it was not told);
+/// as true, and that the key did not tell as true (`up` is true where it was not given);
 /// [`RequestError::ListTooLong`] and [`RequestError::IdTooLong`] of more ids than maxCredentialCountInList, or
-/// an id of more bytes than maxCredentialIdLength, where these were told; [`RequestError::Unfit`] of a hash that
+/// an id of more bytes than maxCredentialIdLength, where these were given; [`RequestError::Unfit`] of a hash that
 /// hasn't 32 bytes, an rp id outside 1 to 253, a user handle outside 1 to 64, an id outside 1 to 1,023, and
 /// extensions that are no map or have no canonical encoding of three levels; [`RequestError::MessageTooLong`] of
-/// more bytes than maxMsgSize, which is 1,024 where it was not told. Otherwise only [`RequestError::Memory`] is answered.
+/// more bytes than maxMsgSize, which is 1,024 where it was not given. Otherwise only [`RequestError::Memory`] is answered.
 pub fn write_creation(
     alloc: Global,
     info: &KeyInfo<'_>,

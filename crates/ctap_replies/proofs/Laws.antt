@@ -268,7 +268,7 @@ module _ (v : Item) (rest : List ℕ) (canon : Canon v rest) where
     ),
   )
 
--- ---- what is refused, want of memory aside, is no reply
+-- ---- what is refused, unless memory runs out, is no reply
 
 faulty_none : (ms : Members) (rest tail : List ℕ) (v x : Item) → Canon v rest → gravest (record_of ms) v ≢ None → Canon x tail → gravest (record_of ms) x ≡ None
     → rest ≡ tail → ⊥

@@ -152,7 +152,7 @@ fn after_status(bytes: &[u8]) -> Result<&[u8], Error>
 /// The reply of these bytes to getAssertion. Its members lie in them: nothing is copied, and no
 /// memory is taken.
 ///
-/// Refused as [`read_reply`] refuses, but never for want of memory.
+/// Refused as [`read_reply`] refuses, but never because memory ran out.
 pub fn read_assertion(bytes: &[u8]) -> Result<AssertionView<'_>, Error>
     ensures found { IfOk result (λ r.
         IsReply kinds.GetAssertion (assertion_reply (lent_assertion_view r)) bytes.now) }
@@ -179,7 +179,7 @@ pub fn read_creation(alloc: Global, bytes: &[u8]) -> Result<CreationReply, Error
     ensures found { IfOk result (λ r.
         IsReply kinds.MakeCredential (creation_reply (creation_reply_view r)) bytes.now) }
     ensures refused { IfErr result (λ e. ReplyRefused kinds.MakeCredential bytes.now e) }
-    // So bytes that are refused, but for want of memory, are no such reply.
+    // So bytes that are refused, unless memory ran out, are no such reply.
     ensures none { IfErr result (λ e. e ≢ errors.Memory
         → (q : Creation) → ReplyOf (creation_reply q) bytes.now → ⊥) }
 {

@@ -77,7 +77,7 @@ ranks =
 abbrev pub NoStatus : List ℕ → Type 0
 NoStatus bs = NoneOf (Applies bs) ranks
 
--- what is answered in place of a request: want of memory, or the status of the first rank that applies
+-- what is answered in place of a request: out of memory, or the status of the first rank that applies
 abbrev pub Refused : List ℕ → Error → Type 0
 Refused bs errors.Memory = Unit {0}
 Refused bs (errors.Status s) = (r : Rank) × First (Applies bs) ranks r × (s ≡ status_of r)

@@ -38,7 +38,7 @@ fn status_of(fault: Fault) -> u8
     }
 }
 
-/// What the map of a command's request is answered by, which has a fault; or want of memory.
+/// What the map of a command's request is answered by, which has a fault; or that memory ran out.
 fn refusal(alloc: Global, command: u8, value: &View<'_>) -> Error
     requires { gravest (map_of command) (shown value.now) ≢ None }
     ensures { (result ≡ errors.Memory) ⊎ ((f : map_faults.Fault)

@@ -35,7 +35,7 @@ WorksOut n Idle = Unit {0}
 WorksOut n (Receiving cid cmd len next bytes) = Unit {0}
 WorksOut n (Working cid payload) = (1 ≤ cid) × (cid ≤ n) × (cid ≢ 0xFFFFFFFF)
 
--- what is told of what was chosen for an initial packet
+-- what is answered of what was chosen for an initial packet
 chosen_told : (n : ℕ) (s : TransactionState) (c cmd len k : ℕ) (area : List ℕ) (a : Arbitration)
     → Rests n (is_busy s) (is_receiving_on s c) (is_working_on s c) c cmd k a → WorksOut n s
     → TellsEvent s (Initial c cmd len area) (chosen_effect n s c cmd len area a).after (chosen_response n s c cmd len area a).step

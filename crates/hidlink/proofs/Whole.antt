@@ -29,7 +29,7 @@ takes h n c len next bytes s p f says e l =
     subst (λ (k : ℕ). Leaves (h ++ Took p ∷ []) k (came n c 16 len next bytes).after) (came_out n c len next bytes)
     (subst (λ (x : Effect). Leaves (h ++ Took p ∷ []) x.channels x.after) (ap (packet_effect n s) says ∙ e) (leaves-push h n s (Took p) l))
 
--- what is told with as many continuations
+-- what is answered with as many continuations
 told_now : (c len next : ℕ) (bytes : List ℕ) (later : List (List ℕ)) (after : List Packet) → map fields after ≡ continuations c next later
     → next + length later ≡ continuation_count len → on_receipt c 16 len next bytes ≡ told_before c after
 told_now c len next bytes [] [] e size = let all : continuation_count len ≤ next = omega arith in rw (le-ltb next (continuation_count len) all) refl
@@ -119,7 +119,7 @@ comes h n c m (p ∷ ps) l out some z' =
     nothing k [] e = refl
     nothing k (a ∷ later) e = absurd (cc)
 
--- what is told of the next continuation
+-- what is answered of the next continuation
 next_told : (n c len next : ℕ) (bytes : List ℕ) (later : List (List ℕ)) (p : Packet) (after : List Packet) → map fields (p ∷ after) ≡ continuations c next later
     → next + length later ≡ continuation_count len → (next < continuation_count len)
     × (response n (Receiving c 16 len next bytes) (fields p) ≡ told_before c after)

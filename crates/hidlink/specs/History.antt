@@ -1,5 +1,5 @@
 -- What a device's calls mean: CTAP 2.1 section 11.2.5 (arbitration, transactions). A history is read
--- into parts, of which each is a transaction or a call by itself.
+-- into parts: each is a transaction or a call by itself.
 use Rattle.std.specs.Prelude.{◌≡◌, ◌≢◌, ℕ, Bool, false, ◌+◌, ◌<◌, ◌≤◌, ◌⊎◌, ◌==◌, List, [], ◌∷◌, ◌++◌, length, take, if◌then◌else◌}
 use Rattle.std.specs.List.{AllByRecursion, flat_map}
 use Rattle.hidframe.specs.declared.Packet.{Packet}

@@ -326,7 +326,7 @@ pub fn feed_all(collector: &mut Collector, packets: &[Packet]) -> usize
     used
 }
 
-/// What the packets give on the channel of a new collector, which is fed them. Takes no memory.
+/// Feeds the packets to a new collector, and returns the outcome on its channel. Allocates nothing.
 pub fn receive<'a>(collector: &'a mut Collector, packets: &[Packet]) -> Received<'a>
     requires { Got collector.old.cid [] collector.old.shown }
     ensures { Receives collector.entry.now.cid packets.now result }

@@ -66,7 +66,7 @@ fn channel_after(channel: Option<u32>, nonce: &[u8; 8], packet: &Packet) -> Opti
 }
 
 /// Asks a device for a channel by an INIT on the broadcast channel, whose nonce of 8 bytes should be
-/// random: by it the response is told from those to other clients. Takes no memory.
+/// random: it distinguishes the response from those to other clients. Takes no memory.
 #[derive(Clone, Copy, Debug)]
 pub struct Opener {
     nonce: [u8; 8],

@@ -15,7 +15,7 @@ each Is [] i v below is all = absurd (omega arith)
 each Is (x ∷ values) zero v below is all = subst (λ y. Is (view y)) (sym is) all.0
 each Is (x ∷ values) (suc i) v below is all = each Is values i v (omega arith) is all.1
 
--- a list of which one value is refused is refused
+-- a list with a value that is refused is refused
 pub item_refused : (name : Bor (List ℕ)) (Is : Data → Type 0) (values : List Value) (i : ℕ) (v : Value) (e : LineError) → i < length values → v ≡ get_or values i v
     → IsRefusedAs name (Is (view v)) e → IsRefusedAs name (AllByRecursion Is (map view values)) e
 item_refused name Is values i v e below is (inl memory) = inl memory

@@ -34,7 +34,7 @@ AreItems name d items = (option_and_then as_array (member name d) ≡ Some (item
 
 -- ---- what an error says of a member
 
--- it is there, and not in its form; want of memory says nothing
+-- it is there, and not in its form; running out of memory says nothing
 abbrev pub IsIllFormed : List ℕ → (Data → Type 0) → Data → LineError → Type 0
 IsIllFormed name Is d (errors.BadForm n) = (n.now ≡ name) × ((m : Data) × (member name d ≡ Some m) × (Is m → ⊥))
 IsIllFormed name Is d errors.Memory = ⊤
@@ -56,7 +56,7 @@ abbrev pub IsMissing : List ℕ → Data → LineError → Type 0
 IsMissing name d (errors.Missing n) = (n.now ≡ name) × (member name d ≡ None)
 IsMissing name d _ = ⊥
 
--- a value is refused as that of a member, since it has not a form; want of memory says nothing
+-- a value is refused as that of a member, since it has not a form; running out of memory says nothing
 abbrev pub IsRefusedAs : Bor (List ℕ) → Type 0 → LineError → Type 0
 IsRefusedAs name Is e = (e ≡ errors.Memory) ⊎ ((e ≡ errors.BadForm name) × (Is → ⊥))
 
@@ -90,3 +90,7 @@ abbrev pub HasUnknown : List (List ℕ) → Data → LineError → Type 0
 HasUnknown names d e =
     (e ≡ errors.UnknownMember)
     × ((ms : Members) × (name : List ℕ) × (as_object d ≡ Some ms) × IsOneOf (names_in ms) name × (IsOneOf (taken names) name → ⊥))
+
+-- an object has no member but those that its act takes
+abbrev pub HasNoOther : List (List ℕ) → Data → Type 0
+HasNoOther names d = (ms : Members) → as_object d ≡ Some ms → AllByRecursion (IsOneOf (taken names)) (names_in ms)

@@ -29,10 +29,10 @@ IsUnnumbered d id e = (e ≡ errors.BadId) × (id ≡ None) × ((n : ℕ) → Ha
 abbrev pub IsNotRead : List ℕ → Option ℕ → LineError → Type 0
 IsNotRead line id e = IsUnread line e ⊎ ((d : Data) × (read line ≡ Some d) × IsUnnumbered d id e)
 
--- an object has no number; or it has one, which is told, and this is amiss
+-- an object has no number; or it has one, which is answered, and this is amiss
 abbrev pub IsAmissIn : (Data → LineError → Type 0) → Data → Option ℕ → LineError → Type 0
 IsAmissIn Of d id e = IsUnnumbered d id e ⊎ ((n : ℕ) × (id ≡ Some n) × HasNumber (codes "id") d n × Of d e)
 
--- why a line is refused, and the number that is told of it
+-- why a line is refused, and the number that is answered of it
 abbrev pub IsRefused : (Data → LineError → Type 0) → List ℕ → Option ℕ → LineError → Type 0
 IsRefused Of line id e = IsUnread line e ⊎ ((d : Data) × (read line ≡ Some d) × IsAmissIn Of d id e)

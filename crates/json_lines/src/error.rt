@@ -20,7 +20,7 @@ pub enum LineError {
     /// The line is no JSON object.
     #[error("the line is no JSON object")]
     NotAnObject,
-    /// The member `id` is no number from 0 to 2^64 - 1.
+    /// The member `id` is not a number from 0 to 2^64 - 1.
     #[error("id is no number")]
     BadId,
     /// The member `act` names no act.

@@ -152,7 +152,7 @@ impl Scan {
 }
 
 /// The number of the member `id` of a line that begins as an object, by its first `MAX_LINE` + 1 bytes; nothing where it
-/// has none, or one that is no number from 0 to 2^64 - 1. A name that is written by escapes is another one.
+/// has none, or one that is not a number from 0 to 2^64 - 1. A name that is written by escapes is another one.
 pub(crate) fn id_of(line: &[u8]) -> Option<u64> {
     let mut scan = Scan::new();
     for (at, &byte) in line.iter().enumerate() {

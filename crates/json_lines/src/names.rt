@@ -1,8 +1,9 @@
 //! The names of a line's members.
 
-ghost use Rattle.std.specs.Prelude.{◌≡◌, ◌↔◌, IfErr, IsTrue, map};
+ghost use Rattle.std.specs.Prelude.{◌≡◌, ◌↔◌, IfErr, IsTrue, OnOk, map};
+ghost use Rattle.std.specs.List.{AllByRecursion};
 ghost use Rattle.serde_json.specs.View.{members_view, view};
-ghost use Rattle.json_lines.specs.Faults.{HasUnknown, HasUnknownIn, IsOneOf, taken};
+ghost use Rattle.json_lines.specs.Faults.{HasNoOther, HasUnknown, HasUnknownIn, IsOneOf, names_in, taken};
 
 use crate::error::LineError;
 use serde_json::{Map, Value};
@@ -35,7 +36,8 @@ fn takes(names: &[&str], name: &str) -> bool
 
 /// That there is no member that the act does not take.
 fn check_all(names: &[&str], members: &Map<String, Value>) -> Result<(), LineError>
-    ensures { IfErr result (HasUnknownIn (map (λ n. n.now) names.now) (members_view members.now.entries)) }
+    ensures taken { OnOk result (AllByRecursion (IsOneOf (taken (map (λ n. n.now) names.now))) (names_in (members_view members.now.entries))) }
+    ensures unknown { IfErr result (HasUnknownIn (map (λ n. n.now) names.now) (members_view members.now.entries)) }
 {
     for (name, _) in members {
         if !takes(names, name.as_str()) {
@@ -47,7 +49,8 @@ fn check_all(names: &[&str], members: &Map<String, Value>) -> Result<(), LineErr
 
 /// That a line's object has no member beside `id`, `act`, and those of these names.
 pub fn check_names(names: &[&str], line: &Value) -> Result<(), LineError>
-    ensures { IfErr result (HasUnknown (map (λ n. n.now) names.now) (view line.now)) }
+    ensures taken { OnOk result (HasNoOther (map (λ n. n.now) names.now) (view line.now)) }
+    ensures unknown { IfErr result (HasUnknown (map (λ n. n.now) names.now) (view line.now)) }
 {
     match line.as_object() {
         Some(members) => check_all(names, members),

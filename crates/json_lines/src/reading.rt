@@ -48,7 +48,7 @@ fn object_of(alloc: Global, line: &[u8]) -> Result<Value, LineError>
 /// Reads a line: at most `MAX_LINE` bytes of UTF-8, a JSON object that nests at most `MAX_NESTING` deep, with a number `id`. Of
 /// members with one name the last stands.
 ///
-/// Of a line that is refused the number is told too, where it can be read: of one that is no such object, by what stands
+/// Of a line that is refused the number is answered too, where it can be read: of one that is no such object, by what stands
 /// before the first `MAX_LINE` + 1 bytes end.
 pub fn read_object(alloc: Global, line: &[u8]) -> Result<Numbered, LineFault>
     // What is read is the line's object, and its number.

@@ -165,7 +165,7 @@ works_for k p i is =
     at_some Idle c m e = absurd (cc)
     at_some (Receiving cid cmd len next bytes) c m e = absurd (cc)
 
--- for want of memory alone, where something waits
+-- only if memory runs out, where something waits
 pub only_memory : (e : ServeError) → (e ≡ serves.NotWorking → ⊥) → told_as e ≡ errors.Memory
 only_memory serves.NotWorking works = absurd (works refl)
 only_memory serves.Memory works = refl

@@ -73,7 +73,7 @@ GoesOn old request words es before t new after =
     × Computes s words es old.device cid before request new.stage t u new.device after
     × (new ≡ record old { device = new.device; pin = Some u; stage = new.stage })
 
--- for want of memory it is to begin anew
+-- if memory ran out, it is to begin anew
 abbrev pub BeginsAnew : KeyDeviceState → PinRequest → PinWords → Entries → KeyDeviceState → Type 0
 BeginsAnew old request words es new =
     (s : PinState) × (u : PinState) × (old.pin ≡ Some s) × IsUndone s words es request u

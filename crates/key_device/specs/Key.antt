@@ -72,7 +72,7 @@ Fits pin Idle stage = stage ≡ stages.Nothing
 Fits pin (Receiving cid cmd len next bytes) stage = stage ≡ stages.Nothing
 Fits pin (Working cid payload) stage = FitsRequest pin payload stage
 
--- a decision was taken on the request that the device works on, by each function from secrets to keys that has those handed in for
+-- a decision was taken on the request that the device works on, by each function from secrets to keys that has those passed for
 -- the decision's secret
 abbrev pub IsWaiting : KeyDeviceState → Pending → Type 0
 IsWaiting k p =

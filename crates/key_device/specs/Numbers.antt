@@ -1,4 +1,4 @@
--- What a refusal of the device's end is told as, and a load.
+-- What a refusal of the device's end is reported as, and a load.
 use Rattle.authenticator.specs.declared.error.LoadError.{LoadError}
 use Rattle.authenticator.specs.declared.error.LoadError.TheVariants as of
 use Rattle.security_key.specs.declared.serving.ServeError.{ServeError}

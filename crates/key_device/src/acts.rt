@@ -152,7 +152,7 @@ impl KeyDevice {
         }
     }
 
-    /// The host's words, for a request that waits for them. One that was not read yet is read, and waits for what is told then.
+    /// The host's words, for a request that waits for them. One that was not read yet is read, and waits for what is answered then.
     pub fn compute(
         &mut self,
         alloc: Global,
@@ -160,7 +160,7 @@ impl KeyDevice {
         out: &mut Vec<Packet>,
     ) -> Result<Told, KeyError>
         ensures taken { IfOk result (λ t. TakesWords self.old.stage self.old words out.old.items t self.new out.new.items) }
-        // A refusal, where no request waits for words, changes nothing; one for want of memory lets the computation begin anew.
+        // A refusal, where no request waits for words, changes nothing; if memory ran out, the computation may begin anew.
         ensures not_computing { IsErrOf result errors.NotComputing → (WaitsForWords self.old.stage → ⊥) }
         ensures errors { OnErr result (IsErrOf result errors.NotComputing ⊎ IsErrOf result errors.Memory) }
         ensures unchanged { IsErrOf result errors.NotComputing → self.new ≡ self.old }
@@ -206,7 +206,7 @@ impl KeyDevice {
         out: &mut Vec<Packet>,
     ) -> Result<Told, KeyError>
         ensures taken { IfOk result (λ t. TakesAnswer self.old.stage self.old answer.items out.old.items t self.new out.new.items) }
-        // A refusal, where nothing is asked, changes nothing; one for want of memory lets the computation begin anew.
+        // A refusal, where nothing is asked, changes nothing; if memory ran out, the computation may begin anew.
         ensures not_asking { IsErrOf result errors.NotAsking → (WaitsForAnswer self.old.stage → ⊥) }
         ensures errors { OnErr result (IsErrOf result errors.NotAsking ⊎ IsErrOf result errors.Memory) }
         ensures unchanged { IsErrOf result errors.NotAsking → self.new ≡ self.old }
@@ -251,7 +251,7 @@ impl KeyDevice {
 
     /// The user decides on the request that waits; the random words are for a credential that it may make. Of a key that takes PINs
     /// a token says whether the user is verified, and not the consent. A request that was not read yet is read, and waits for what
-    /// is told then.
+    /// is answered then.
     pub fn decide<K: PublicKeys>(
         &mut self,
         alloc: Global,
@@ -260,10 +260,10 @@ impl KeyDevice {
         words: Words,
         out: &mut Vec<Packet>,
     ) -> Result<Told, KeyError>
-        // by each function from secrets to keys that has the keys' own for the secret that is handed in
+        // by each function from secrets to keys that has the keys' own for the secret that is passed
         ensures taken { (public : Keys) → AgreesOn words.secret public (K.public_of keys.now)
             → IfOk result (λ t. TakesDecision public self.old.stage self.old consent words out.old.items t self.new out.new.items) }
-        // A refusal, for want of memory or of a request that waits for the user, changes nothing.
+        // A refusal changes nothing: memory ran out, or a request waits for the user.
         ensures not_working { IsErrOf result errors.NotWorking → (WaitsForUser self.old.stage → ⊥) }
         ensures errors { OnErr result (IsErrOf result errors.NotWorking ⊎ IsErrOf result errors.Memory) }
         ensures unchanged { OnErr result (self.new ≡ self.old) }
@@ -319,7 +319,7 @@ impl KeyDevice {
         requires low { 1 ≤ length signature.now }
         requires high { length signature.now ≤ 128 }
         ensures signed { OnOk result (IsSigned self.old out.old.items signature.now self.new out.new.items) }
-        // It is refused where nothing waits for one; and for want of memory alone, and then what waited is gone, and nothing else has
+        // It is refused where nothing waits for one; and only if memory runs out, and then what waited is gone, and nothing else has
         // changed.
         ensures not_signing { IsErrOf result errors.NotSigning → self.old.pending ≡ None }
         ensures memory { OnErr result (IsErrOf result errors.NotSigning ⊎ (IsErrOf result errors.Memory × IsSome self.old.pending)) }

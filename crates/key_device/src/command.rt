@@ -10,7 +10,7 @@ use pin_client_messages::AgreementKey;
 use pin_key_messages::PinAsked;
 use std::alloc::{AllocError, Global};
 
-/// The platform's public key, as it was told.
+/// The platform's public key, as it was given.
 #[derive(Drop)]
 pub(crate) struct KeptKey {
     pub kty: i128,

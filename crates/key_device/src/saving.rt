@@ -50,7 +50,7 @@ impl KeyDevice {
     pub fn load(&mut self, alloc: Global, bytes: &[u8]) -> Result<(), KeyLoadError>
         ensures loaded { OnOk result (IsLoaded self.old bytes.now self.new) }
         ensures sound { OnOk result (SoundState self.new.authenticator) }
-        // It is refused only where the bytes are no authenticator's, or for want of memory,
+        // It is refused only where the bytes are no authenticator's, or if memory runs out,
         ensures bad { IsErrOf result loads.BadAuthenticator → (a : AuthenticatorState) → SoundState a → SavedOf a bytes.now → ⊥ }
         ensures no_pin { IsErrOf result loads.BadPin → ⊥ }
         ensures takes { IsErrOf result loads.NoPin → ⊥ }

@@ -21,7 +21,7 @@ use Rattle.key_pin.specs.State.{PinState, PinToken}
 use Rattle.key_pin.specs.Steps.{Try, needed, known, is_agreement_key, client_point, shared, pin_of, may_try, tried_pin, is_right, key_agreement, unset, set_pin, change_begun, changed, replaced, try_begun, without_scope, pin_token_begun, allowed_permissions, token_begun, token_given, token}
 use Rattle.key_pin.proofs.Binds.{Asking, asking_ok, asking_refused, asking_then, asking_more, asking_if, sized_asks, answer_asks}
 
--- there is no answer to it, and it is no decryption
+-- there is no answer to it, and it is not a decryption
 pub record Plain (es : List (Asked × List ℕ)) (a : Asked) : Type 0 where
   pub none : answer_of es a ≡ None
   pub other : a.operation ≡ operations.Decrypt → ⊥

@@ -13,7 +13,7 @@ use Rattle.key_pin.proofs.Binds.{Asking, asking_ok, asking_refused}
 use Rattle.key_pin.proofs.Asked.{New, Plain, new_plain, agreement_asks, set_asks, change_begun_asks, changed_asks, pin_token_asks, token_begun_asks, token_asks}
 use Rattle.key_pin.proofs.Free.{Giving, giving_ok, giving_err, giving_then, Begins, Sets, Comes, change_begins, pin_token_begins, token_begins, set_gives, changed_gives, token_gives}
 
--- what is told, or a PIN that is set where there was none
+-- what is answered, or a PIN that is set where there was none
 abbrev pub Mild : PinState → Outcome → Type 0
 Mild s retries_told = Unit {0}
 Mild s key_told = Unit {0}

@@ -88,7 +88,7 @@ IsScoped q permissions rp_id =
     ⊎ ((q.subcommand ≡ 9) × (q.permissions ≡ Some permissions) × (0 < permissions) × (permissions ≤ 3)
     × ((own : List ℕ) × (q.rp_id ≡ Some own) × (rp_id ≡ Some own)))
 
--- a token is the host's, and is told encrypted under the same secret
+-- a token is the host's, and is answered encrypted under the same secret
 pub record IsGiven (es : List (Asked × List ℕ)) (words : PinWords) (q : Query) (s : PinState) (token : PinToken) (sealed : List ℕ) : Type 0 where
   pub tried : IsTried es words q s
   pub bytes : token.bytes ≡ words.token

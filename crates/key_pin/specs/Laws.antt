@@ -103,7 +103,7 @@ pub record PinLaws : Type 0 where
       → (verdict es words q s).outcome ≡ Ok (token_told token sealed) → IsScoped q token.permissions token.rp_id
   pub comes : (es : List (Asked × List ℕ)) (words : PinWords) (q : Query) (s : PinState) (outcome : Outcome) → (verdict es words q s).outcome ≡ Ok outcome
       → ComesOf es words q s outcome
-  -- the retries are told by subcommand 1, and whether three PINs in a row were wrong
+  -- the retries are answered by subcommand 1, and whether three PINs in a row were wrong
   pub tells : (s : PinState) (bs : List ℕ) → Replies (Ok retries_told) (public s) bs
       → (blocked : Bool) × (blocked ≡ true ↔ 3 ≤ s.mismatches)
       × PinReplyBytes (record { key = None; token = None; pin_retries = Some s.retries; power_cycle = Some blocked; uv_retries = None }) bs

@@ -10,15 +10,15 @@ use Rattle.key_pin.specs.Host.{Ending, asks, refused}
 use Rattle.key_pin.specs.State.{PinState, PinToken, over}
 
 pub data Outcome : Type 0 where
-  -- the retries are told
+  -- the retries are answered
   retries_told : Outcome
-  -- the public key is told
+  -- the public key is answered
   key_told : Outcome
   -- this hash is of the PIN from now on
   pin_set : List ℕ → Outcome
   -- the old PIN was right, and the new one is refused by this status
   pin_refused : ℕ → Outcome
-  -- a new token, and how it is told: encrypted
+  -- a new token, and how it is answered: encrypted
   token_told : PinToken → List ℕ → Outcome
   -- the PIN was wrong
   mismatch : Outcome

@@ -27,7 +27,7 @@ of_product_stop stops.Memory = ends.Memory
 of_product_stop (stops.Asks a) = ends.Asks a
 of_product_stop _ = ends.Refused 0x02
 
--- what a function gives, seen by view, is what the steps give, unless memory was wanting
+-- what a function gives, seen by view, is what the steps give, unless memory ran out
 abbrev pub Fails : {Y : Type 0} → End → Result Y Ending → Type 0
 Fails ends.Memory r = Unit {0}
 Fails (ends.Asks a) r = r ≡ Err (asks (ask_view a))
@@ -48,7 +48,7 @@ outcome_view (made.PinRefused status) = pin_refused status
 outcome_view (made.TokenTold token sealed) = token_told (token_view token) sealed.now
 outcome_view made.Mismatch = mismatch
 
--- what the steps give, but for want of memory
+-- what the steps give, unless memory runs out
 abbrev pub IsOutcome : Result Made End → Result Outcome Ending → Type 0
 IsOutcome (Ok d) r = r ≡ Ok (outcome_view d)
 IsOutcome (Err ends.Memory) r = ⊥
@@ -59,7 +59,7 @@ IsOutcome (Err (ends.Refused status)) r = r ≡ Err (refused status)
 abbrev pub Finishes : Result Made End → PinState → PinStep → PinState → Type 0
 Finishes made old step new = (r : Result Outcome Ending) × IsOutcome made r × IsStep (record { outcome = r; state = old }) step × (new ≡ after r old)
 
--- a verdict is reached and the state is the one in which it was; or memory was wanting, and the try may have been counted
+-- a verdict is reached and the state is the one in which it was; or memory ran out, and the try may have been counted
 abbrev pub Reaches : Verdict → PinState → Result Made End → PinState → Type 0
 Reaches v old (Ok d) new = (v.outcome ≡ Ok (outcome_view d)) × (new ≡ v.state)
 Reaches v old (Err ends.Memory) new = (new ≡ old) ⊎ (new ≡ v.state)

@@ -89,7 +89,7 @@ impl ClientPin {
         ensures state { OnOk result (pin_view self.new ≡ after_grant (granted (entries answers.now) (claim protocol param.now permission rp_id.now client_data_hash.now) (pin_view self.old).token) rp_id.now (pin_view self.old)) }
         // Asked is nothing that was answered.
         ensures asks { IfOk result (IsNew (entries answers.now)) }
-        // Where memory is wanting nothing has changed.
+        // If memory runs out nothing has changed.
         ensures err { OnErr result (pin_view self.new ≡ pin_view self.old) }
     {
         let own = String::from_str(alloc, rp_id)?;

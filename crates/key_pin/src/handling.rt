@@ -82,7 +82,7 @@ impl ClientPin {
     /// A request of clientPIN. Where the host is asked, the call is made again with its answer, for the same request and with
     /// the same words.
     ///
-    /// The reply is a status of CTAP 2.1, section 8.2, alone, or status 0 and what is told; 0x7F where an answer of the host has
+    /// The reply is a status of CTAP 2.1, section 8.2, alone, or status 0 and what is answered; 0x7F where an answer of the host has
     /// another size. The steps of each subcommand, in order, stand in `specs/Steps.antt`.
     ///
     /// Before the host is asked to decrypt pinHashEnc, one retry less is left. Where there is no memory, the key pair may have
@@ -99,7 +99,7 @@ impl ClientPin {
             (verdict (entries answers.now) words.now (query_view asked.now) (pin_view self.old)).state) }
         // Asked is nothing that was answered.
         ensures asks { IfOk result (Unanswered (entries answers.now)) }
-        // Where memory is wanting, the key pair was taken, and the try may have been counted.
+        // If memory runs out, the key pair was taken, and the try may have been counted.
         ensures want { OnErr result ((pin_view self.new ≡ with_pair words.now (pin_view self.old))
             ⊎ (pin_view self.new ≡ (verdict (entries answers.now) words.now (query_view asked.now) (pin_view self.old)).state)) }
     {

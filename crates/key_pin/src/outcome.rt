@@ -16,15 +16,15 @@ use std::alloc::{AllocError, Global};
 /// What comes of a request.
 #[derive(Debug, Drop)]
 pub(crate) enum Outcome<'a> {
-    /// The retries are told.
+    /// The retries are answered.
     RetriesTold,
-    /// The public key is told.
+    /// The public key is answered.
     KeyTold,
     /// This hash is of the PIN from now on.
     PinSet([u8; 16]),
     /// The old PIN was right, and the new one is refused by this status.
     PinRefused(u8),
-    /// A new token, and how it is told: encrypted.
+    /// A new token, and how it is answered: encrypted.
     TokenTold(Token, &'a [u8]),
     /// The PIN was wrong.
     Mismatch,

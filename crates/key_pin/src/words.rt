@@ -21,7 +21,7 @@ pub struct PinWords {
 pub enum PinStep {
     /// The host is asked for this: the call is to be made again with its answer, for the same request and with the same words.
     Asks(Ask),
-    /// The reply: a status, and what is told.
+    /// The reply: a status, and what is answered.
     Replies(Vec<u8>),
 }
 

@@ -1,4 +1,4 @@
--- Lists that are told, piece by piece.
+-- Lists that are answered, piece by piece.
 use Rattle.std.proofs.Common.{◌≡◌, ◌<◌, ◌+◌, ◌++◌, ◌/◌, ◌%◌, ℕ, List, [], ◌∷◌, length, map, take, get_or, slice_index, refl, sym, ap, ◌∙◌}
 use Rattle.std.specs.List.{concat}
 use Rattle.std.proofs.lemmas.List.{append-nil, append_assoc, map_more}

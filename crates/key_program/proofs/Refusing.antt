@@ -1,4 +1,4 @@
--- What a refusal of the key is told as.
+-- What a refusal of the key is reported as.
 use Rattle.std.proofs.Common.{◌≡◌, ◌∙◌, ◌⊎◌, inl, inr, ℕ, List, Option, None, Result, Ok, Err, ap, subst, sym}
 use Rattle.std.specs.Prelude.{IsSome}
 use Rattle.authenticator.specs.declared.pending.Pending.{Pending}

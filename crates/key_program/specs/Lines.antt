@@ -35,7 +35,7 @@ pub record KeyLinesState : Type 0 where
   pub key : KeyDeviceState
   pub sent : List Packet
 
--- the keys that are handed in, for whatever secret
+-- the keys that are passed, for whatever secret
 abbrev pub keys_of : HandedKeys → Keys
 keys_of keys alg secret = handed_key keys alg
 
@@ -69,15 +69,15 @@ IsCarriedOut _ old before _ new after = ⊥
 
 -- ---- a line that is refused
 
--- for want of memory alone
+-- only if memory runs out
 abbrev pub IsForMemory : KeyDeviceState → Fault → KeyDeviceState → Type 0
 IsForMemory old f new = (f ≡ faults.Refused errors.Memory) × (new ≡ old)
 
--- the key's own refusal is told, where nothing waits for this; or it is for want of memory
+-- if nothing waits for this, the key's own refusal; or memory ran out
 abbrev pub IsRefusal : KeyError → Type 0 → Fault → Type 0
 IsRefusal e waits f = ((f ≡ faults.Refused e) × (waits → ⊥)) ⊎ (f ≡ faults.Refused errors.Memory)
 
--- it has another length; or nothing waits for one; or, for want of memory, what waited is gone
+-- it has another length; or nothing waits for one; or, if memory runs out, what waited is gone
 abbrev pub IsRefusedSignature : List ℕ → KeyDeviceState → Fault → KeyDeviceState → Type 0
 IsRefusedSignature signature old faults.BadSignature new = (HasSize signature → ⊥) × (new ≡ old)
 IsRefusedSignature signature old (faults.Refused errors.NotSigning) new = HasSize signature × (old.pending ≡ None) × (new ≡ old)
@@ -112,14 +112,14 @@ IsRefused (lines.LoadPin bytes) old f new = IsRefusedPin bytes.items old f × (n
 IsRefused lines.Power old f new = IsForMemory old f new
 IsRefused lines.Over old f new = ⊥
 
--- what a load that is refused is told as
+-- what a load that is refused is reported as
 abbrev pub told_of_load : KeyLoadError → Fault
 told_of_load loads.BadAuthenticator = faults.BadAuthenticator
 told_of_load loads.BadPin = faults.BadPin
 told_of_load loads.NoPin = faults.BadLine
 told_of_load loads.Memory = faults.Refused errors.Memory
 
--- ---- what is told
+-- ---- what is answered
 
 abbrev pub given_lines : Given → KeyDeviceState → List ℕ
 given_lines (given.Told t) k = act_lines t (asked_at k.stage) k.pending
@@ -149,13 +149,13 @@ pub record IsSaid (line : List ℕ) (k : KeyDeviceState) (c : LineCommand) : Typ
   pub says : Says c (words_of line)
   pub takes : OnTrue (is_of_pin c) (IsSome k.pin)
 
--- what it says is done; or is refused; or nothing has happened to a line that has none of the forms, or was not read for want of memory
+-- what it says is done; or is refused; or nothing has happened to a line that has none of the forms, or was not read if memory runs out
 abbrev pub Does : List ℕ → KeyDeviceState → Result Given Fault → KeyDeviceState → List Packet → Type 0
 Does line old (Ok g) new sent = (c : LineCommand) × IsSaid line old c × IsCarriedOut c old [] g new sent
 Does line old (Err f) new sent =
     (((c : LineCommand) × IsSaid line old c × IsRefused c old f new) ⊎ ((f ≡ faults.BadLine) × (new ≡ old))) × (sent ≡ [])
 
--- and what came of it is told, then the packets to send
+-- and what came of it is answered, then the packets to send
 abbrev pub Answers : List ℕ → KeyDeviceState → List ℕ → KeyDeviceState → List ℕ → Type 0
 Answers line old before new after =
     (done : Result Given Fault) × (sent : List Packet) × Does line old done new sent

@@ -1,4 +1,4 @@
--- What is told of an act, line by line: docs/KEY.md has the lines.
+-- What is answered of an act, line by line: docs/KEY.md has the lines.
 use Rattle.std.specs.Prelude.{ℕ, List, [], ◌∷◌, ◌++◌, codes, map, Option, Some, None}
 use Rattle.std.specs.Int.{to_be_bytes, w32}
 use Rattle.std.specs.List.{concat}

@@ -28,7 +28,7 @@ Options:
 docs/KEY.md has the lines.
 ";
 
-/// What is told where an argument is none of these words.
+/// What is answered where an argument is none of these words.
 const BAD_WORDS: &str =
     "softkey: a word is none of no-uv, self-attestation and pin; softkey --help lists them\n";
 

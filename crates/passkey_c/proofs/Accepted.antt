@@ -1,4 +1,4 @@
--- What an accepted response says: the data that are told are those that its bytes spell.
+-- What an accepted response says: the data that are answered are those that its bytes spell.
 use Rattle.std.proofs.Common.{◌≡◌, ◌++◌, ◌∷◌, ◌∙◌, ◌⊎◌, inl, inr, ℕ, Bool, true, false, List, [], Some, ap, arith, refl, subst, sym}
 use Rattle.std.specs.Prelude.{◌≢◌, ◌≤◌, IsSome, codes, length}
 use Rattle.ccbor.specs.Canon.{head, spelling}
@@ -44,7 +44,7 @@ object_end o bytes h =
     (behind (spelling o.statement) _ _ (behind (spelling (text (codes "authData"))) _ _ last)))) in
     subst (λ (l : List ℕ). EndsIn l o.auth_data) (sym h.1.1) (behind (head 5 3) _ _ pairs)
 
--- the format is told as the statement shows it
+-- the format is reported as the statement shows it
 format_of : (format : List ℕ) (n : ℕ) (o : Attestation) (key : CoseKey) (valid : Validity) (hash : List ℕ) → format ≡ o.fmt
     → (format ≡ codes "none" → n ≡ 0) × (format ≢ codes "none" → n ≡ 1) → IsNone o ⊎ IsSelfSigned valid o key hash → IsFormat n o key
 format_of format n o key valid hash is told (inl none) = inl (told.0 (is ∙ none.0), none)
@@ -66,7 +66,7 @@ is_given : {T : Type 0} (there : Bool) (x : T) → IsSome (given there x) → gi
 is_given true x some = refl
 is_given false x none = absurd cc
 
--- what is told of an accepted registration is what it attests
+-- what is answered of an accepted registration is what it attests
 pub tells_registration : (call : RegistrationCall) (out : RegistrationOut) (v : AttestedRegistration) (valid : Validity)
     → IsVerifiedRegistration (judged_registration call) v → PassesRegistration valid (judged_registration call) → TellsSeen out v
     → TellsRegistration call out

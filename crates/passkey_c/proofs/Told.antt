@@ -46,7 +46,7 @@ is_unread p r o spelled none = λ other a c attests.
     let same : other ≡ o = one_object other o r.object attests.object spelled in
     none a c (subst (λ (x : Attestation). AuthOf p a x.auth_data) same attests.auth_data) attests.attested
 
--- what is told is what was asked
+-- what is answered is what was asked
 pub tells : (call : SignatureCall) (out : SignatureOut) (message signature : List ℕ) (asked : AskedSignature)
     → Asks (flag_of call.is_registration) call (lent_key_view asked.key) (asked.auth_data.now ++ asked.hash) asked.signature.now
     → TellsAs out message signature asked

@@ -29,7 +29,7 @@ use Rattle.passkey_c.specs.declared.parts.RegistrationOut.{RegistrationOut}
 use Rattle.passkey_c.specs.declared.parts.SignatureCall.{SignatureCall}
 use Rattle.passkey_c.specs.declared.parts.SignatureOut.{SignatureOut}
 
--- what a host is told of a signature: what is said of it, and the rooms of its message and of itself
+-- what a host learns of a signature: what is said of it, and the rooms of its message and of itself
 pub record AskedRooms : Type 0 where
   pub out : SignatureOut
   pub message : List ℕ
@@ -44,7 +44,7 @@ pub record IsSignatureAsked (call : SignatureCall) (old new : AskedRooms) (resul
   pub answer : IsAskAnswer result
   pub untouched : result ≢ 0 → (new.out ≡ old.out) × (new.message ≡ old.message) × (new.signature ≡ old.signature)
 
--- a sign-in is judged (WebAuthn Level 2, section 7.2): 0 where each step is passed, and then it is told what its response
+-- a sign-in is judged (WebAuthn Level 2, section 7.2): 0 where each step is passed, and then it is answered what its response
 -- says; else the first step that is not passed, or the limit that is not kept
 pub record IsAssertion (call : AssertionCall) (old new : AssertionOut) (result : ℕ) : Type 0 where
   pub accepted : result ≡ 0 → PassesSignIn (sign_in_validity call) (judged_sign_in call)
@@ -66,7 +66,7 @@ pub record IsRegistration (call : RegistrationCall) (old new : RegistrationOut) 
   pub answer : IsRegistrationAnswer result
   pub untouched : result ≢ 0 → new ≡ old
 
--- the key whose COSE_Key bytes these are is told: exactly if they are a key's
+-- the key whose COSE_Key bytes these are is answered: exactly if they are a key's
 pub record IsKeyFromCose (bytes : List ℕ) (old new : KeyOut) (result : Bool) : Type 0 where
   pub is : IsTrue result ↔ ((key : CoseKey) × IsCoseKey key bytes)
   pub told : result ≡ true → (key : CoseKey) × IsCoseKey key bytes × TellsKey new key

@@ -54,7 +54,7 @@ Asks false call = λ key message signature.
     (key_of call.key ≡ Some key) × (message ≡ call.assertion.auth_data.now ++ sha256 call.assertion.client_data.now)
     × (signature ≡ call.assertion.signature.now)
 
--- what the host is told: this signature, or that there is none
+-- what the host gets: this signature, or that there is none
 abbrev pub Tells : SignatureCall → SignatureOut → List ℕ → List ℕ → Bool → Type 0
 Tells call out message signature true =
     (key : CoseKey) × (m : List ℕ) × (s : List ℕ) × Asks (flag_of call.is_registration) call key m s
@@ -78,12 +78,12 @@ IsBroken call m s limits.MessageRoom = IsRoom call (λ message _. m < length mes
 IsBroken call m s limits.SignatureRoom = IsRoom call (λ _ signature. s < length signature)
 IsBroken call m s _ = ⊥
 
--- the limits of what is handed in are kept: of a registration that of the profile, of a sign-in those of its key
+-- the limits of what is passed are kept: of a registration that of the profile, of a sign-in those of its key
 abbrev pub AskKeeps : Bool → SignatureCall → Type 0
 AskKeeps true call = IsProfile call.profile
 AskKeeps false call = Each (KeyKeeps call.key) key_order
 
--- why nothing is told: a registration attests nothing, or a limit is not kept
+-- why nothing is answered: a registration attests nothing, or a limit is not kept
 abbrev pub IsUntold : SignatureCall → ℕ → ℕ → AskError → Type 0
 IsUntold call m s errors.Unreadable = (flag_of call.is_registration ≡ true) × IsUnread (profile_of call.profile) (response_of call.registration)
 IsUntold call m s (errors.Limit limit) = IsBroken call m s limit

@@ -1,4 +1,4 @@
--- The limits of what a host hands in.
+-- The limits of what a host passes.
 use Rattle.std.specs.Prelude.{◌≡◌, true, List, [], ◌∷◌, ◌++◌, IfSome, length}
 use Rattle.std.specs.Str.{IsUtf8}
 use Rattle.refusal_order.specs.Lines.{Each}
@@ -69,7 +69,7 @@ RegistrationKeeps call limit = PartyKeeps call.party limit
 abbrev pub registration_limits : List Limit
 registration_limits = party_limits ++ (limits.Challenge ∷ verified_limits)
 
--- the limit is not kept; want of memory says nothing
+-- the limit is not kept; running out of memory says nothing
 abbrev pub IsFault : (Limit → Type 0) → InputFault → Type 0
 IsFault Keeps (faults.Limit limit) = Keeps limit → ⊥
 IsFault Keeps faults.Memory = Unit {0}

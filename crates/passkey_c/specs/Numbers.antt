@@ -27,7 +27,7 @@ abbrev pub fault_number : InputFault → ℕ
 fault_number (faults.Limit limit) = limit_number limit
 fault_number faults.Memory = 127
 
--- a signature that is asked can't be told: 7 where a registration attests nothing
+-- a signature that is asked can't be answered: 7 where a registration attests nothing
 abbrev pub ask_number : AskError → ℕ
 ask_number errors.Unreadable = 7
 ask_number (errors.Limit limit) = limit_number limit

@@ -1,4 +1,4 @@
--- What the parts that a host hands in stand for.
+-- What the parts that a host passes stand for.
 use Rattle.std.specs.Prelude.{◌≡◌, ◌==◌, ◌<◌, ℕ, ℤ, pos, negsuc, Bool, true, false, not, List, [], ◌∷◌, ◌++◌, length, map, take, Option, Some, None, option_map}
 use Rattle.std.specs.Prelude.{if◌then◌else◌}
 use Rattle.cose.specs.declared.key.Alg.{Alg}
@@ -17,7 +17,7 @@ use Rattle.passkey_c.specs.declared.parts.KeyParts.{KeyParts}
 use Rattle.passkey_c.specs.declared.parts.PartyParts.{PartyParts}
 use Rattle.passkey_c.specs.declared.parts.VerifiedParts.{VerifiedParts}
 
--- a flag that is handed in is a number: set unless it is 0
+-- a flag that is passed is a number: set unless it is 0
 abbrev pub flag_of : ℕ → Bool
 flag_of number = not (number == 0)
 
@@ -26,7 +26,7 @@ abbrev pub given : {T : Type 0} → Bool → T → Option T
 given true x = Some x
 given false x = None
 
--- the same of a value that may not be one
+-- the same for a value that may not be one
 abbrev pub given_some : {T : Type 0} → Bool → Option T → Option T
 given_some true x = x
 given_some false x = None
@@ -74,7 +74,7 @@ y_of (keys.Rs256 k) = k.e
 abbrev pub Fills : ℕ → List ℕ → List ℕ → Type 0
 Fills size room bytes = (size ≡ length bytes) × (take size room ≡ bytes)
 
--- the host is told this key: its algorithm's number, and as many bytes of x and y as it has
+-- the host gets this key: its algorithm's number, and as many bytes of x and y as it has
 abbrev pub TellsKey : KeyOut → CoseKey → Type 0
 TellsKey out key = (out.algorithm ≡ number_of (alg_of key)) × Fills out.x_size out.x (x_of key) × Fills out.y_size out.y (y_of key)
 
@@ -102,6 +102,6 @@ verified_in has_verified parts =
 abbrev pub EndsIn : List ℕ → List ℕ → Type 0
 EndsIn whole end = (front : List ℕ) × (whole ≡ front ++ end)
 
--- so many bytes, the last of the whole, are these
+-- this many bytes, the last of the whole, are these
 abbrev pub IsEnd : ℕ → List ℕ → List ℕ → Type 0
 IsEnd size whole end = (size ≡ length end) × EndsIn whole end

@@ -50,7 +50,7 @@ registration_validity call = only_verified (verified_in (flag_of call.has_verifi
 abbrev pub IsFormat : ℕ → Attestation → CoseKey → Type 0
 IsFormat format o key = ((format ≡ 0) × IsNone o) ⊎ ((format ≡ 1) × ((signature : List ℕ) × IsSelfSignedBy o key signature))
 
--- what the host is told of what the response attests: the credential, and what the authenticator data and the object, as it
+-- what the host learns of what the response attests: the credential, and what the authenticator data and the object, as it
 -- counts, say
 abbrev pub TellsAttested : RegistrationOut → Attestation → AuthenticatorData → AttestedCredential → List ℕ → Type 0
 TellsAttested out o a c object =

@@ -48,7 +48,7 @@ judged_sign_in call = record {
 abbrev pub sign_in_validity : AssertionCall → Validity
 sign_in_validity call = only_verified (verified_in (flag_of call.has_verified) call.verified)
 
--- what the host is told of the authenticator data
+-- what the host learns of the authenticator data
 abbrev pub TellsData : AssertionOut → AuthenticatorData → List ℕ → Type 0
 TellsData out a bytes =
     (out.sign_count ≡ a.sign_count) × (out.flags ≡ a.flags)

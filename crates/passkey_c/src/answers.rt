@@ -107,7 +107,7 @@ impl Limit {
     }
 }
 
-/// Why what was handed in is not judged.
+/// Why what was passed is not judged.
 #[derive(Clone, Copy, Debug, PartialEq, Eq, Drop)]
 pub enum InputFault {
     /// A member is out of its limits.

@@ -27,7 +27,7 @@ pub struct AskedSignature<'a> {
     pub signature: &'a [u8],
 }
 
-/// Why it cannot be told.
+/// Why it cannot be answered.
 #[derive(Clone, Copy, Debug, PartialEq, Eq, Drop)]
 pub enum AskError {
     Unreadable,
@@ -186,7 +186,7 @@ fn tell_sign_in(
     }
 }
 
-/// Tells which signature the host is to verify: 0 where it is told, or that there is none; 7 where a registration attests
+/// Tells which signature the host is to verify: 0 where it is answered, or that there is none; 7 where a registration attests
 /// nothing; 104 to 106 where a sign-in's key is out of its limits; 110 or 111 where a room is too small; 112 where a
 /// registration's profile is not known. It takes no memory.
 pub fn passkey_signature_asked(

@@ -40,7 +40,7 @@ impl From<InputFault> for Refusal {
     }
 }
 
-/// The session that is handed in.
+/// The session that is passed.
 fn expected(alloc: Global, call: &AssertionCall<'_>) -> Result<Option<SignInSession>, InputFault>
     ensures found { IfOk result (λ session. option_map sign_in_view session ≡ (judged_sign_in call.now).session) }
     ensures kept { OnOk result (SignInKeeps call.now Limit.Challenge) }
@@ -62,7 +62,7 @@ fn expected(alloc: Global, call: &AssertionCall<'_>) -> Result<Option<SignInSess
     }))
 }
 
-/// The key of the credential that is handed in.
+/// The key of the credential that is passed.
 fn credential_key<'a>(call: &AssertionCall<'a>) -> Result<Option<KeyView<'a>>, InputFault>
     ensures found { IfOk result (λ key. option_map lent_key_view key ≡ given_some (flag_of call.now.has_credential) (key_of call.now.credential.key)) }
     ensures algorithm { OnOk result (SignInKeeps call.now Limit.KeyAlgorithm) }
@@ -97,7 +97,7 @@ fn sign_in_verifier<'a>(call: &AssertionCall<'a>) -> Result<HostVerifier<'a>, In
     }
 }
 
-/// The credential that is handed in, with its key.
+/// The credential that is passed, with its key.
 fn row<'a, 'b: 'a>(call: &AssertionCall<'b>, key: Option<KeyView<'a>>) -> Option<RowView<'a>>
     requires { option_map lent_key_view key ≡ given_some (flag_of call.now.has_credential) (key_of call.now.credential.key) }
     ensures { option_map credential_view result ≡ (judged_sign_in call.now).credential }
@@ -139,7 +139,7 @@ fn response<'a, 'b: 'a>(call: &AssertionCall<'b>) -> AssertionParts<'a>
     }
 }
 
-/// Judges a sign-in by what was handed in.
+/// Judges a sign-in by what was passed.
 fn verified<'a>(
     alloc: Global,
     call: &AssertionCall<'a>,

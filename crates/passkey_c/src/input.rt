@@ -1,4 +1,4 @@
-//! What a host hands in, as values of the crates below.
+//! What a host passes, as values of the crates below.
 
 ghost use Rattle.std.specs.Prelude.{◌≡◌, ◌≢◌, ◌↔◌, ◌≤◌, IfErr, IfOk, IfSome, IsTrue, None, OnOk, Some, length, map, option_map};
 ghost use Rattle.refusal_order.specs.Lines.{Each};
@@ -157,7 +157,7 @@ pub(crate) fn is_profile(number: u8) -> bool
     number < 3
 }
 
-/// The relying party that is handed in.
+/// The relying party that is passed.
 pub(crate) fn party_from(alloc: Global, parts: &PartyParts<'_>) -> Result<RelyingParty, InputFault>
     ensures found { IfOk result (λ party. party ≡ party_of parts.now) }
     ensures kept { OnOk result (Each (PartyKeeps parts.now) party_limits) }

@@ -1,5 +1,5 @@
-//! What a host hands in, lent, and what it is told. Presence is told by flags, never by emptiness: where a flag is
-//! clear, the members that go with it are not looked at. A flag that is handed in is a byte, set unless it is 0.
+//! What a host passes, lent, and what it gets. Presence is answered by flags, never by emptiness: where a flag is
+//! clear, the members that go with it are not looked at. A flag that is passed is a byte, set unless it is 0.
 
 /// Bytes: where they begin, and how many they are.
 #[repr(C)]
@@ -203,7 +203,7 @@ pub struct RegistrationCall<'a> {
     pub verified: VerifiedParts<'a>,
 }
 
-/// A public key that is told.
+/// A public key that is answered.
 #[repr(C)]
 #[derive(Drop)]
 pub struct KeyOut {

@@ -56,7 +56,7 @@ fn algorithms(alloc: Global, es256: bool, eddsa: bool, rs256: bool) -> Result<Ve
     }
 }
 
-/// The session that is handed in.
+/// The session that is passed.
 fn expected(
     alloc: Global,
     call: &RegistrationCall<'_>,

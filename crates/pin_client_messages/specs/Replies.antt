@@ -9,7 +9,7 @@ use Rattle.ctap_encoding.specs.declared.error.Error.TheVariants as errors
 use Rattle.ctap_open_replies.specs.Telling.{Tells}
 use Rattle.pin_client_messages.specs.Commands.{key_members}
 
--- the public key of the authenticator's key agreement, as it was told
+-- the public key of the authenticator's key agreement, as it was given
 pub record ToldKey : Type 0 where
   pub kty : ℤ
   pub alg : ℤ

@@ -7,7 +7,7 @@ ghost use Rattle.pin_client_messages.specs.ReplyView.{key_view};
 
 use crate::command::Point;
 
-/// The public key of the authenticator's key agreement (CTAP 2.1, section 6.5.6), as it was told: a COSE_Key.
+/// The public key of the authenticator's key agreement (CTAP 2.1, section 6.5.6), as it was given: a COSE_Key.
 #[derive(Clone, Copy, Debug, Drop)]
 pub struct AgreementKey<'a> {
     /// The key type: 2.

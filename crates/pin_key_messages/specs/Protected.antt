@@ -78,7 +78,7 @@ IsWithout command m n bs bare =
 abbrev pub IsUnprotected : List ℕ → List ℕ → Type 0
 IsUnprotected bs bare = IsWithout 1 8 9 bs bare ⊎ IsWithout 2 6 7 bs bare
 
--- the status that answers what is no such request
+-- the status that answers anything but such a request
 abbrev pub RefusedPart : List ℕ → Error → Type 0
 RefusedPart bs errors.Memory = Unit {0}
 RefusedPart bs errors.Unfit = Unit {0}

@@ -5,6 +5,6 @@ use Rattle.ctap_encoding.specs.Table.{record_of}
 use Rattle.ctap_encoding.specs.Content.{item_of}
 use Rattle.pin_client_messages.specs.Replies.{Told, reply_content, reply_members}
 
--- status 0, and the canonical encoding of the map of the members that are told
+-- status 0, and the canonical encoding of the map of the members that are answered
 abbrev pub PinReplyBytes : Told → List ℕ → Type 0
 PinReplyBytes q bs = (rest : List ℕ) × (bs ≡ 0 ∷ rest) × Canon (item_of (record_of reply_members) (reply_content q)) rest

@@ -14,7 +14,7 @@ pub struct PinAsked<'a> {
     pub protocol: Option<u64>,
     /// The member `subCommand`.
     pub subcommand: u64,
-    /// The member `keyAgreement`: the platform's public key, as it was told.
+    /// The member `keyAgreement`: the platform's public key, as it was given.
     pub key: Option<AgreementKey<'a>>,
     /// The member `pinUvAuthParam`.
     pub param: Option<&'a [u8]>,
@@ -28,7 +28,7 @@ pub struct PinAsked<'a> {
     pub rp_id: Option<&'a str>,
 }
 
-/// The members of such a request, of which each may be absent.
+/// The members of such a request, each of which may be absent.
 #[derive(Clone, Copy, Debug, Drop)]
 pub(crate) struct AskedMembers<'a> {
     pub protocol: Option<u64>,

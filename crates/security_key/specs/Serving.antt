@@ -76,7 +76,7 @@ event_of n s (act.Decide consent words) = step.Quiet
 event_of n s act.Wait = step.Quiet
 event_of n s act.Expire = step.Quiet
 
--- of a decision, the one has the keys of the other for the secret that is handed in with it
+-- of a decision, the one has the keys of the other for the secret that is passed with it
 abbrev pub AgreesFor : Act → Keys → Keys → Type 0
 AgreesFor (act.Packet p) public known = Unit {0}
 AgreesFor (act.Decide consent words) public known = AgreesOn words.secret public known

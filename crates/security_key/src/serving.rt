@@ -61,7 +61,7 @@ pub enum ServeError {
 impl ServeError {
     ghost use Rattle.security_key.specs.Numbers.{serve_number};
 
-    /// The number of the refusal; none for want of memory.
+    /// The number of the refusal; none if memory runs out.
     pub fn number(&self) -> Option<u8>
         ensures { result ≡ serve_number self.now }
     {
@@ -209,7 +209,7 @@ fn act_on<K: PublicKeys>(
 /// What waits is to be dropped where the device works on its request no more: when [`Device::working`] tells of none
 /// after a later act. As long as it tells of one, it is the same request.
 ///
-/// The keys are asked for the public key of the secret that is handed in, where a credential is to be made. Refused as
+/// The keys are asked for the public key of the secret that is passed, where a credential is to be made. Refused as
 /// `serve`, and a refusal changes nothing.
 pub fn begin_serving<K: PublicKeys>(
     device: &mut Device,
@@ -220,7 +220,7 @@ pub fn begin_serving<K: PublicKeys>(
 ) -> Result<Served, ServeError>
     requires { device.old.left ≡ [] }
     // The act is done whatever signatures are valid, or its request waits for one and nothing has changed: so by each function
-    // from secrets to keys that has the keys' own for the secret that is handed in;
+    // from secrets to keys that has the keys' own for the secret that is passed;
     ensures begun { (public : Keys) → AgreesFor act public (K.public_of keys.now)
         → IfOk result (λ served. BeginsServing public
         device.old authenticator.old act out.old.items served device.new authenticator.new out.new.items) }
@@ -229,7 +229,7 @@ pub fn begin_serving<K: PublicKeys>(
         → GoesOn device.old authenticator.old device.new authenticator.new) }
     // nothing is left to send,
     ensures drained { device.new.left ≡ [] }
-    // and a refusal, for want of memory or of a request, changes nothing.
+    // and a refusal changes nothing: memory ran out, or it is of a request.
     ensures not_working { IsErrOf result errors.NotWorking → AsksForWork act × (IsWorking device.old.state → ⊥) }
     ensures device { OnErr result (device.new ≡ device.old) }
     ensures authenticator { OnErr result (authenticator.new ≡ authenticator.old) }
@@ -263,7 +263,7 @@ pub fn finish_serving(
         × IsDone device.old out.old.items d device.new authenticator.new out.new.items) }
     // nothing is left to send,
     ensures drained { device.new.left ≡ [] }
-    // and a refusal, for want of memory or of a request, changes nothing.
+    // and a refusal changes nothing: memory ran out, or it is of a request.
     ensures not_working { IsErrOf result errors.NotWorking → IsWorking device.old.state → ⊥ }
     ensures device { OnErr result (device.new ≡ device.old) }
     ensures authenticator { OnErr result (authenticator.new ≡ authenticator.old) }
@@ -304,7 +304,7 @@ pub fn serve<S: Signer>(
         × ((h : List DeviceCall) → Leaves h device.old.channels device.old.state → Leaves (h ++ done.calls) device.new.channels device.new.state)) }
     // nothing is left to send,
     ensures drained { device.new.left ≡ [] }
-    // and a refusal, for want of memory or of a request, changes nothing.
+    // and a refusal changes nothing: memory ran out, or it is of a request.
     ensures not_working { IsErrOf result errors.NotWorking → AsksForWork act × (IsWorking device.old.state → ⊥) }
     ensures device { OnErr result (device.new ≡ device.old) }
     ensures authenticator { OnErr result (authenticator.new ≡ authenticator.old) }

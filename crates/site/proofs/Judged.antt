@@ -41,7 +41,7 @@ pub same_registration : (rp : RelyingParty) (policy : Policy) (r : responses.Aut
     → registration_with rp policy r is_registered is_full s ≡ registration_with rp policy r is_registered is_full t
 same_registration rp policy r is_registered is_full s t sessions = ap (registration_with rp policy r is_registered is_full) sessions
 
--- whether a row is there, as it is told
+-- whether a row is there, as it is given
 pub said_row : (b : Bool) (o : Option Credential) → b ≡ false ↔ o ≡ None → is_some o ≡ b
 said_row true None is = let none : Option Credential = None in let no : true ≡ false = is.1 refl in cc
 said_row false None is = refl
@@ -52,7 +52,7 @@ pub no_row : (o : Option Credential) → is_some o ≡ false → o ≡ None
 no_row None e = refl
 no_row (Some x) e = let bad : true ≡ false = e in cc
 
--- whether there is room, as it is told
+-- whether there is room, as it is given
 abbrev pub is_full : List Credential → Bool
 is_full rows = not (nat_lt (length rows) 65536)
 
@@ -89,7 +89,7 @@ admitted_as rp policy r rows session = registration_with rp policy r (λ id. is_
 abbrev row_with : List ℕ → List ℕ → CoseKey → ℕ → Bool → Credential
 row_with id user key sign_count eligible = record { id = id; user = user; key = key; sign_count = sign_count; eligible = Some eligible; retired = false }
 
--- the row that is pushed, by what is told of it
+-- the row that is pushed, by what is answered of it
 pub same_row : {id i : List ℕ} {user u : List ℕ} {key k : CoseKey} {sign_count n : ℕ} {eligible b : Bool} → id ≡ i → user ≡ u → key ≡ k → sign_count ≡ n
     → eligible ≡ b
     → row_with id user key sign_count eligible ≡ row_with i u k n b

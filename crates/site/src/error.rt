@@ -21,7 +21,7 @@ pub enum Error {
 }
 
 impl Error {
-    /// The number of the refusal; none for want of memory.
+    /// The number of the refusal; none if memory runs out.
     pub fn number(&self) -> Option<u8>
         ensures { result ≡ refusal_number self.now }
     {

@@ -142,7 +142,7 @@ impl Site {
     }
 
     /// The same where other sites' pages of these origins may frame its own (WebAuthn Level 3, sections 7.1 and 7.2,
-    /// `topOrigin`), of which each is compared as a text. Level 3 alone looks at them.
+    /// `topOrigin`), each compared as a text. Level 3 alone looks at them.
     pub fn framed_by(
         alloc: Global,
         profile: Profile,

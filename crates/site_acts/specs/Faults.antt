@@ -194,6 +194,6 @@ IsOfAct d e = (kind : ActKind) × HasText (codes "act") d (kind_name kind) × (H
 abbrev pub IsRefusedIn : Data → LineError → Type 0
 IsRefusedIn d e = IsAmiss (codes "act") IsText d e ⊎ (IsNoAct d e ⊎ IsOfAct d e)
 
--- why a line is refused, and the number that is told of it
+-- why a line is refused, and the number that is answered of it
 abbrev pub IsRefused : List ℕ → Option ℕ → LineError → Type 0
 IsRefused = lines.IsRefused IsRefusedIn

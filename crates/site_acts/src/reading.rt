@@ -176,7 +176,7 @@ fn act_in(alloc: Global, line: &Value) -> Result<Act, LineError>
 }
 
 /// Reads a line: an object with a number, the name of an `act`, and the members that the act takes. A member that it does not
-/// take is refused: so a misspelled one is not passed over. Of a line that is refused the number is told too, where it can be
+/// take is refused: so a misspelled one is not passed over. Of a line that is refused the number is answered too, where it can be
 /// read.
 pub fn read_line(alloc: Global, line: &[u8]) -> Result<Line, LineFault>
     // What is read is what the line says,

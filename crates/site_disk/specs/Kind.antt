@@ -16,12 +16,12 @@ module _ {A B : Type 0} where
   by_kind of_usual of_wary (Usual disk) = of_usual disk
   by_kind of_usual of_wary (Wary disk) = of_wary disk
 
-  -- the same of what may hold of a disk
+  -- the same for what may hold of a disk
   abbrev pub holds_by_kind : {R : Type 0} → (A → R → Type 0) → (B → R → Type 0) → SiteDisk A B → R → Type 0
   holds_by_kind of_usual of_wary (Usual disk) = of_usual disk
   holds_by_kind of_usual of_wary (Wary disk) = of_wary disk
 
-  -- the same of what holds of each disk
+  -- the same for what holds of each disk
   abbrev pub law_by_kind : (Law : SiteDisk A B → Type 0) → ((disk : A) → Law (Usual disk)) → ((disk : B) → Law (Wary disk)) → (disk : SiteDisk A B) → Law disk
   law_by_kind Law of_usual of_wary (Usual disk) = of_usual disk
   law_by_kind Law of_usual of_wary (Wary disk) = of_wary disk

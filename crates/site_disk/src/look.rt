@@ -20,7 +20,7 @@ pub struct Look<D: Disk> {
 }
 
 impl<D: Disk> Look<D> {
-    /// A file of which all is in memory.
+    /// A file that is wholly in memory.
     pub fn in_memory(inner: D) -> Look<D> {
         Look {
             file: None,

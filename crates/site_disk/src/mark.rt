@@ -1,4 +1,4 @@
-//! The marks of a site's commits, by which a log is told that is another file's.
+//! The marks of a site's commits, which show that a log is another file's.
 
 ghost use Rattle.std.specs.Prelude.{◌≡◌, ◌↔◌, ℕ, ◌+◌, ◌*◌, ◌<◌, ◌≤◌, [], ◌∷◌, length, slice_range, IfOk, IsTrue, MatchOption};
 ghost use Rattle.std.specs.Int.{w16, w64, w128, from_be_bytes};

@@ -221,7 +221,7 @@ fn site_in<D: Disk + Drop>(
 /// sessions. A program passes `Unknown` as `start`, which stands for what the files held.
 ///
 /// With `sums` each page of the database file ends in its sum, as of SQLite's cksumvfs, which each open tests: so most changed
-/// bytes are told. A `sqlite3` without that extension reads such a file, and spoils it when it writes. `wary` as at `open`.
+/// bytes are noticed. A `sqlite3` without that extension reads such a file, and spoils it when it writes. `wary` as at `open`.
 ///
 /// `key` is 32 random bytes, under which the site seals its sessions. `BadBound` where more than 1,000,000 credentials could be registered, `Exists` where a file is there
 /// that holds something, `LoneLog` where its log is there alone, `NotSqlite`, `DamagedLog` and `OtherLog` where the two are no sound SQLite file;

@@ -122,7 +122,7 @@ pub fails_after : {S : Type 0} (view : S → View) (faults : S → ℕ) (old mid
 fails_after view faults old mid new U V D E a back up f g h =
     λ clean. if_failed _ _ a (λ why. caused_since (view old.store) (view mid.store) _ _ _ _ _ _ _ why up (f (back clean)) (g (back clean))) (h clean)
 
--- what else may be told of it
+-- what else may be said of it
 pub fails_as : {S : Type 0} (view : S → View) (faults : S → ℕ) (old new : StoredState S) (U V D : Type 0) (a : Answer) → (U → V)
     → FailsBy view faults old new U D a → FailsBy view faults old new V D a
 fails_as view faults old new U V D a f h =

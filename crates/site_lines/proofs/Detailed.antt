@@ -1,4 +1,4 @@
--- What is known of credentials, and what is told of it.
+-- What is known of credentials, and what is answered of it.
 use Rattle.std.specs.Prelude.{◌≤◌, ◌^◌, ◌+◌, ◌⊎◌, Vec}
 use Rattle.std.specs.Global.{Global}
 use Rattle.std.proofs.Common.{inr, refl, ◌≡◌, ◌++◌, ◌∷◌, [], ℕ, List, map, ap, sym, subst, ◌∙◌, false}
@@ -43,13 +43,13 @@ details_on : {S : Type 0} (view : S → View) (old mid : StoredState S) (details
     → HoldsDetails details (view old.store).trees → HoldsDetails details (view mid.store).trees
 details_on view old mid details same clean h = ap (λ v. v.trees 5) (same.store clean) ∙ h
 
--- what is told of a site that has not changed, after a look
+-- what is answered of a site that has not changed, after a look
 pub of_details_on : {S : Type 0} (view : S → View) (old mid new : StoredState S) (Of : Placed → Details → Type 0) → IsSame view old mid
     → (IsClean (view new.store) → IsClean (view mid.store)) → OfDetails view mid new Of → OfDetails view old new Of
 of_details_on view old mid new Of same back of clean placed held details d =
     of clean placed (held_on view placed old mid same (back clean) held) details (details_on view old mid details same (back clean) d)
 
--- what is told of it holds when it has changed
+-- what is answered of it holds when it has changed
 pub of_details_then : {S : Type 0} (view : S → View) (old mid new : StoredState S) (Of : Placed → Details → Type 0)
     → (IsClean (view new.store) → IsClean (view mid.store)) → OfDetails view old mid Of → OfDetails view old new Of
 of_details_then view old mid new Of back of clean placed held details d = of (back clean) placed held details d
@@ -191,7 +191,7 @@ fails view now (acts.Rows user) old new why = tt
 fails view now acts.Status old new why = tt
 fails view now (acts.Backup path) old new why = tt
 
--- rows are told with what is known of each, after a look
+-- rows are answered with what is known of each, after a look
 pub row_details_after : {S : Type 0} (view : S → View) (rows : Vec Row Global) (old mid new : StoredState S) (a : Answer) → IsSame view old mid
     → IsWithKnown view rows mid new a → TellsRowDetails view old new a
 row_details_after view rows old mid new (answers.RegistrationBegun x b known) same h = absurd h

@@ -1,4 +1,4 @@
--- What is told of a ceremony that is finished, by what the site's call says.
+-- What is answered of a ceremony that is finished, by what the site's call says.
 use Rattle.std.proofs.Common.{◌≡◌, ℕ, List, Option, false, subst, sym}
 use Rattle.sqlite_trees.specs.View.{View}
 use Rattle.authdata.specs.Responses.{AuthenticatorAssertionResponse, assertion_response_view, registration_response_view}
@@ -57,7 +57,7 @@ sign_in_step view f now text old new r why step v verified same texts is refuses
     let three = subst (λ t. RefusesBy view (is_valid f.verified) now t old new (assertion_response_view f.response) why) texts two in
     subst (λ (e : VerificationError SignInRefusal). RefusesBy view (is_valid f.verified) now f.session.items old new (assertion_response_view f.response) e) is three
 
--- what is told of that step, after a second look
+-- what is answered of that step, after a second look
 pub sign_in_refused : {S : Type 0} (view : S → View) (f : FinishSignIn) (now : ℕ) (old mid new : StoredState S) (step : SignInRefusal) (a : Answer)
     → IsSame view old mid → StopsSignIn view f now old mid step → IsRefusedSignIn view step f mid new a → Keeps view mid new a → TellsSignIn view f now old new a
 sign_in_refused view f now old mid new step (answers.RegistrationBegun x b known) same stops h k = absurd h
@@ -142,7 +142,7 @@ registration_step view f now text old new r why step v verified same texts is re
     let three = subst (λ t. RefusesNewBy view (is_valid f.verified) now t old new (named_response f) why) texts two in
     subst (λ (e : VerificationError RegistrationRefusal). RefusesNewBy view (is_valid f.verified) now f.session.items old new (named_response f) e) is three
 
--- what is told of that step
+-- what is answered of that step
 pub registration_refused : {S : Type 0} (view : S → View) (f : FinishRegistration) (now : ℕ) (old new : StoredState S) (step : RegistrationRefusal) (a : Answer)
     → StopsRegistration view f now old new step → IsRefusedRegistration old.rp.profile step f a → TellsRegistration view f now old new a
 registration_refused view f now old new step (answers.RegistrationBegun x b known) stops h = absurd h

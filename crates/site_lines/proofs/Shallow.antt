@@ -72,7 +72,7 @@ rows_within [] ks = omega arith
 rows_within (row ∷ rows) [] = omega arith
 rows_within (row ∷ rows) (k ∷ ks) = omega (arith, known_flat row k, rows_within rows ks)
 
--- what is told of an acceptance
+-- what is answered of an acceptance
 registered_flat : (x : Registered) → depth (registered x) ≤ 1
 registered_flat x = omega (arith, flag_flat x.credential.eligible, bytes_flat (option_map (λ e. e.items) x.summary.extensions))
 

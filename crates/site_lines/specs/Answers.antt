@@ -99,9 +99,9 @@ StopsSignIn view f now old new step =
     × ExpectsSignIn old ended now f.session.items c r session × IsFirstFailing (is_valid f.verified) (judged_sign_in old session c r) step)
 
 -- what the answer to a sign-in's response says: it passes each step, where the one valid signature is the one that the host
--- verified, the session has ended, that credential alone has changed, and what is told is of this response; or the first step
+-- verified, the session has ended, that credential alone has changed, and what is answered is of this response; or the first step
 -- that it does not pass; or, only where the host has verified nothing yet and this step is the signature's, which signature it
--- is to verify. So where the host found it invalid, the step is told.
+-- is to verify. So where the host found it invalid, the step is answered.
 abbrev pub TellsSignIn : {S : Type 0} → (S → View) → FinishSignIn → ℕ → StoredState S → StoredState S → Answer → Type 0
 TellsSignIn view f now old new (answers.SignedIn x) =
     IsSameSite old new × EndsAccepted view now f.session.items old new
@@ -147,13 +147,13 @@ opens_sign_in b words = OpensSignIn (option_map (λ u. u.items) b.user) (map (λ
 abbrev pub opens_registration : BeginRegistration → List ℕ → Opening
 opens_registration b words = OpensRegistration b.user.items (ordered b.algorithms.items) b.user_verification words b.asks
 
--- why none begins: what is asked is out of its limits; or no number is left; want of memory says nothing. However many were
+-- why none begins: what is asked is out of its limits; or no number is left; running out of memory says nothing. However many were
 -- begun, they are not why
 abbrev pub IsNotBegun : {S : Type 0} → StoredState S → Opening → NotBegun → Type 0
 IsNotBegun old o (none.Refused why) = ((why ≡ begins.BadInput) × (IsInput old.rp.profile o → ⊥)) ⊎ (why ≡ begins.Memory)
 IsNotBegun old o none.NoNumber = 2 ^ 63 ≤ old.next + 1001
 
--- a session has begun, as it was asked for, at this second: its number, its challenge and its text are told, the next number is one
+-- a session has begun, as it was asked for, at this second: its number, its challenge and its text are answered, the next number is one
 -- more, and the credentials are as they were
 abbrev pub Begins : {S : Type 0} → (S → View) → Opening → List ℕ → ℕ → Begun → StoredState S → StoredState S → Type 0
 Begins view opening words now b old new =
@@ -172,13 +172,13 @@ TellsRegistrationBegun view b words now old new (answers.NotBegun why) = IsNotBe
 TellsRegistrationBegun view b words now old new (answers.Failed why) = Unit {0}
 TellsRegistrationBegun view b words now old new _ = ⊥
 
--- the registrations of a user that have begun have ended as is told
+-- the registrations of a user that have begun have ended as is answered
 abbrev pub BecomesUsers : {S : Type 0} → (S → View) → StoredState S → StoredState S → (Placed → Endings → Endings → Type 0) → Type 0
 BecomesUsers view old new To =
     OfHeld view old new (λ placed. (users : Endings) → HoldsEndings ended_user_tree users (view old.store).trees
     → (after : Endings) × To placed users after × HoldsEndings ended_user_tree after (view new.store).trees)
 
--- what is told of a credential that is to be retired: it signs in no more, and its user's registrations that have begun have ended
+-- what is answered of a credential that is to be retired: it signs in no more, and its user's registrations that have begun have ended
 abbrev pub TellsRetired : {S : Type 0} → (S → View) → ℕ → List ℕ → StoredState S → StoredState S → Answer → Type 0
 TellsRetired view now id old new (answers.Retired was) =
     IsSameSite old new × Becomes view old new (λ placed after. calls.TellsRetired placed id was after)
@@ -186,7 +186,7 @@ TellsRetired view now id old new (answers.Retired was) =
 TellsRetired view now id old new (answers.Failed why) = Unit {0}
 TellsRetired view now id old new _ = ⊥
 
--- what is told of a credential that is to be deleted: it is gone, and its user's registrations that have begun have ended
+-- what is answered of a credential that is to be deleted: it is gone, and its user's registrations that have begun have ended
 abbrev pub TellsDeleted : {S : Type 0} → (S → View) → ℕ → List ℕ → StoredState S → StoredState S → Answer → Type 0
 TellsDeleted view now id old new (answers.Deleted was) =
     IsSameSite old new × Becomes view old new (λ placed after. calls.TellsDeleted placed id was after)
@@ -200,7 +200,7 @@ CutsOffUser view now user old new =
     OfHeld view old new (λ placed. (users : Endings) → HoldsEndings ended_user_tree users (view old.store).trees
     → TellsUserCutOff old now user users (view new.store).trees)
 
--- what is told of a user's credentials that are to be retired: none signs in any more, and the user's registrations that have begun have ended
+-- what is answered of a user's credentials that are to be retired: none signs in any more, and the user's registrations that have begun have ended
 abbrev pub TellsRetiredAll : {S : Type 0} → (S → View) → ℕ → List ℕ → StoredState S → StoredState S → Answer → Type 0
 TellsRetiredAll view now user old new (answers.RetiredAll count) =
     IsSameSite old new × Becomes view old new (λ placed after. calls.TellsAllRetired placed user count after)
@@ -208,7 +208,7 @@ TellsRetiredAll view now user old new (answers.RetiredAll count) =
 TellsRetiredAll view now user old new (answers.Failed why) = Unit {0}
 TellsRetiredAll view now user old new _ = ⊥
 
--- what is told of a user who is to be erased: no credential is the user's, and the user's registrations that have begun have ended
+-- what is answered of a user who is to be erased: no credential is the user's, and the user's registrations that have begun have ended
 abbrev pub TellsErased : {S : Type 0} → (S → View) → ℕ → List ℕ → StoredState S → StoredState S → Answer → Type 0
 TellsErased view now user old new (answers.Erased count) =
     IsSameSite old new × Becomes view old new (λ placed after. calls.TellsErased placed user count after)
@@ -216,7 +216,7 @@ TellsErased view now user old new (answers.Erased count) =
 TellsErased view now user old new (answers.Failed why) = Unit {0}
 TellsErased view now user old new _ = ⊥
 
--- what is told of a session that is to end: whether it was open; the credentials are as they were
+-- what is answered of a session that is to end: whether it was open; the credentials are as they were
 abbrev pub TellsAbandoned : {S : Type 0} → (S → View) → ℕ → List ℕ → StoredState S → StoredState S → Answer → Type 0
 TellsAbandoned view now text old new (answers.Abandoned was) =
     IsSameSite old new × Becomes view old new (λ placed after. after ≡ placed)
@@ -231,7 +231,7 @@ abbrev pub asked_rows : Option (List ℕ) → Placed → List Credential
 asked_rows None placed = rows_of placed
 asked_rows (Some user) placed = filter (λ c. bytes_eq c.user user) (rows_of placed)
 
--- these are told
+-- these are answered
 abbrev pub TellsRows : {S : Type 0} → (S → View) → Option (List ℕ) → StoredState S → StoredState S → Answer → Type 0
 TellsRows view user old new (answers.Rows rows known) = OfHeld view old new (λ placed. rows_view rows.items ≡ asked_rows user placed)
 TellsRows view user old new (answers.Error why) = why ≡ errors.Memory

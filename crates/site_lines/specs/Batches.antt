@@ -52,7 +52,7 @@ IsNotCommitted view faults mid new why =
     IsFailure mid new why
     × (IsClean (view new.store) → IsCausedIn view faults mid new (RefusesCommit (view mid.store).reals mid.rp.rp_id (to_commit mid.durable mid.reserved) mid.next_mark mid.mark) ⊥ why)
 
--- what is told: the answers of the lines, which are committed; or, of each, why they are not
+-- what is answered: the answers of the lines, which are committed; or, of each, why they are not
 abbrev pub Answers : {S : Type 0} → (S → View) → (S → ℕ) → (S → Trees → Type 0) → ℕ → StoredState S → List Arrived → List Answered → StoredState S → Type 0
 Answers {S} view faults recovers now old lines told new =
     ((mid : StoredState S) × Runs view faults now old lines told mid × IsCommitted view recovers mid new)

@@ -23,7 +23,7 @@ abbrev pub IfFailed : (Failure → Type 0) → Answer → Type 0
 IfFailed P (answers.Failed why) = P why
 IfFailed P _ = ⊤
 
--- a failure has its cause between an old site and a new one: want of memory, a fault of the disk that the store counted in between, a row that
+-- a failure has its cause between an old site and a new one: running out of memory, a fault of the disk that the store counted in between, a row that
 -- no store takes, or damage
 abbrev pub IsCausedIn : {S : Type 0} → (S → View) → (S → ℕ) → StoredState S → StoredState S → Type 0 → Type 0 → Failure → Type 0
 IsCausedIn view faults old new refused damage why = IsCaused (view old.store) (faults old.store) (faults new.store) refused damage why

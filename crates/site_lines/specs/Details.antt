@@ -34,12 +34,12 @@ OfDetails view old new Of =
     IsClean (view new.store) → (placed : Placed) → IsHeld placed old (view old.store).trees
     → (details : Details) → HoldsDetails details (view old.store).trees → Of placed details
 
--- transports that are told are those that are kept, or none are
+-- transports that are answered are those that are kept, or none are
 abbrev pub AreTransports : List (List ℕ) → Option Detail → Type 0
 AreTransports ts None = ts ≡ []
 AreTransports ts (Some d) = (ts ≡ []) ⊎ (joined ts ≡ d.transports)
 
--- what is told of a credential is what is held
+-- what is answered of a credential is what is held
 abbrev pub IsKnown : Placed → Details → Known → Type 0
 IsKnown placed details k =
     TellsDetail placed k.id.items details (option_map detail_view k.detail) × AreTransports (map string_bytes k.transports.items) (option_map detail_view k.detail)
@@ -47,7 +47,7 @@ IsKnown placed details k =
 abbrev pub AreKnown : {S : Type 0} → (S → View) → StoredState S → StoredState S → List (List ℕ) → List Known → Type 0
 AreKnown view old new ids known = (map (λ k. k.id.items) known ≡ ids) × OfDetails view old new (λ placed details. AllByRecursion (IsKnown placed details) known)
 
--- a credential that is registered has this detail, and the aaguid that is told
+-- a credential that is registered has this detail, and the aaguid that is answered
 abbrev pub RegistersDetail : {S : Type 0} → (S → View) → Detail → StoredState S → StoredState S → Answer → Type 0
 RegistersDetail view d old new (answers.Registered x) =
     OfDetails view old new (λ placed details. HoldsDetails (finite.insert details (old.last + 1) (with_aaguid x.aaguid d)) (view new.store).trees)
@@ -69,7 +69,7 @@ abbrev pub ForgetsDetails : {S : Type 0} → (S → View) → List ℕ → Store
 ForgetsDetails view user old new (answers.Erased count) = OfDetails view old new (λ placed details. TellsAllForgotten placed user details (view new.store).trees)
 ForgetsDetails view user old new _ = Unit {0}
 
--- the rows are told with what is known of each
+-- the rows are answered with what is known of each
 abbrev pub TellsRowDetails : {S : Type 0} → (S → View) → StoredState S → StoredState S → Answer → Type 0
 TellsRowDetails view old new (answers.Rows rows known) = AreKnown view old new (map (λ r. r.id.items) rows.items) known.items
 TellsRowDetails view old new _ = Unit {0}

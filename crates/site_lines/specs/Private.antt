@@ -45,7 +45,7 @@ IsNotBegunAfter view old new o (begins.Site why) =
 IsNotBegunAfter view old new o begins.NoNumber = IsSame view old new × (2 ^ 63 ≤ old.next + 1001)
 IsNotBegunAfter view old new o (begins.Store why) = IsFailure old new why
 
--- what is answered where a step refuses a sign-in: the step, a question, or want of memory
+-- what is answered where a step refuses a sign-in: the step, a question, or that memory ran out
 abbrev pub IsRefusedSignIn : {S : Type 0} → (S → View) → SignInRefusal → FinishSignIn → StoredState S → StoredState S → Answer → Type 0
 IsRefusedSignIn view step f old new (answers.SignInRefused told id) = (told ≡ step) × (id.items ≡ f.response.credential.items)
 IsRefusedSignIn view step f old new (answers.Verify t) =
@@ -54,7 +54,7 @@ IsRefusedSignIn view step f old new (answers.Error why) = why ≡ errors.Memory
 IsRefusedSignIn view step f old new (answers.Failed why) = Unit {0}
 IsRefusedSignIn view step f old new _ = ⊥
 
--- the same of a registration
+-- the same for a registration
 abbrev pub IsRefusedRegistration : Profile → RegistrationRefusal → FinishRegistration → Answer → Type 0
 IsRefusedRegistration profile step f (answers.RegistrationRefused told id) = (told ≡ step) × (id.items ≡ f.credential.items)
 IsRefusedRegistration profile step f (answers.Verify t) =
@@ -62,22 +62,22 @@ IsRefusedRegistration profile step f (answers.Verify t) =
 IsRefusedRegistration profile step f (answers.Error why) = why ≡ errors.Memory
 IsRefusedRegistration profile step f _ = ⊥
 
--- what is said of a failure, where it is why nothing is told of credentials
+-- what is said of a failure, where it is why nothing is answered of credentials
 abbrev pub IfUnknown : (Failure → Type 0) → Unknown → Type 0
 IfUnknown P unknowns.Memory = ⊤
 IfUnknown P (unknowns.Failed why) = P why
 
--- why nothing is told of credentials: want of memory, and nothing has changed; or a failure
+-- why nothing is answered of credentials: running out of memory, and nothing has changed; or a failure
 abbrev pub IsUnknown : {S : Type 0} → (S → View) → StoredState S → StoredState S → Unknown → Type 0
 IsUnknown view old new unknowns.Memory = IsSame view old new
 IsUnknown view old new (unknowns.Failed why) = IsFailure old new why
 
--- what is answered where nothing is told of credentials
+-- what is answered where nothing is answered of credentials
 abbrev pub unknown : Unknown → Answer
 unknown unknowns.Memory = answers.Error errors.Memory
 unknown (unknowns.Failed why) = answers.Failed why
 
--- rows are told with what is known of each; or nothing is
+-- rows are answered with what is known of each; or nothing is
 abbrev pub IsWithKnown : {S : Type 0} → (S → View) → Vec Row Global → StoredState S → StoredState S → Answer → Type 0
 IsWithKnown view rows old new (answers.Rows told known) =
     (told ≡ rows) × AreKnown view old new (map (λ r. r.id.items) rows.items) known.items × IsSame view old new
@@ -87,7 +87,7 @@ IsWithKnown view rows old new _ = ⊥
 
 -- ---- lines out
 
--- a row with what is known of it; none where nothing is told of it
+-- a row with what is known of it; none where nothing is answered of it
 abbrev pub row_at : Row → Option Known → List Data
 row_at row None = []
 row_at row (Some k) = whole_row row k ∷ []

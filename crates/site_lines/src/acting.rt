@@ -119,7 +119,7 @@ fn known_of<S: Store>(
     all_known(alloc, site, ids.as_slice())
 }
 
-/// What is answered where nothing is told of credentials.
+/// What is answered where nothing is answered of credentials.
 fn unknown(why: Unknown) -> Answer
     ensures { result ≡ unknown_of why }
 {
@@ -199,7 +199,7 @@ fn status<S: Store>(site: &StoredSite<S>) -> Answer
     })
 }
 
-/// Carries out an act, at this second of the host's clock. What it answers is to be committed before it is told.
+/// Carries out an act, at this second of the host's clock. What it answers is to be committed before it is answered.
 #[tactic(auto, using(crate::proofs::Detailed::fails, crate::proofs::Caused::shut_fails))]
 pub fn carry_out<S: Store>(
     alloc: Global,

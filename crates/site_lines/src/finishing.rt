@@ -51,7 +51,7 @@ fn registration_parts(finish: &FinishRegistration) -> RegistrationParts<'_>
 }
 
 /// What is answered where a step refuses a sign-in: which signature is to be verified, where the host has verified nothing
-/// yet and that is the step, or else the step. So it is told too where the host found the signature invalid.
+/// yet and that is the step, or else the step. So it is answered too where the host found the signature invalid.
 fn refused_sign_in<S: Store>(
     alloc: Global,
     site: &mut StoredSite<S>,

@@ -18,7 +18,7 @@ use site_stored::{Failure, StoredSite};
 use sqlite_trees::store::Store;
 use std::alloc::{AllocError, Global};
 
-/// Why nothing is told of credentials.
+/// Why nothing is answered of credentials.
 #[derive(Clone, Copy, Debug, Drop)]
 pub(crate) enum Unknown {
     /// There was no memory. Nothing has changed.

@@ -181,7 +181,7 @@ fn commit<S: Store>(
 }
 
 /// Answers lines that came together, at this second of the host's clock: each is carried out, in order, and all are committed
-/// together. Where the commit fails each answer is that failure. The tally is of what is told; the clock measures commits.
+/// together. Where the commit fails each answer is that failure. The tally is of what is answered; the clock measures commits.
 ///
 /// Where there is no memory for the list of answers, what the lines asked for is not committed, and the site is to be opened
 /// anew.
@@ -193,7 +193,7 @@ pub fn answer_lines<S: Store>(
     now: u64,
     arrived: &[Arrived],
 ) -> Result<Vec<Answered>, AllocError>
-    // What is told is committed; or each answer is one failure. Each failure has its cause in its line, or in the commit.
+    // What is answered is committed; or each answer is one failure. Each failure has its cause in its line, or in the commit.
     ensures told { IfOk result (λ answers. Answers S.Store.view S.Store.faults S.Store.recovers now site.old arrived.now answers.items site.new) }
     // Faults of the disk are counted.
     ensures counts { S.Store.faults site.old.store ≤ S.Store.faults site.new.store }

@@ -185,7 +185,7 @@ fn whole_row(alloc: Global, row: &Row, known: &Known) -> Result<Value, AllocErro
     Ok(Value::Object(members))
 }
 
-/// Adds a credential, with what is known of it, where that is told.
+/// Adds a credential, with what is known of it, where that is answered.
 fn push_row(
     alloc: Global,
     row: &Row,

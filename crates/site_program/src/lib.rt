@@ -29,7 +29,7 @@ fn serve_file(rt: &HostRuntime, options: &Options<'_>) -> Result<(), Fault> {
     served
 }
 
-/// The status of serving with these options; a fault is told on standard error.
+/// The status of serving with these options; a fault is answered on standard error.
 fn run_options(rt: &HostRuntime, options: &Options<'_>) -> u8 {
     match serve_file(rt, options) {
         Ok(()) => 0,

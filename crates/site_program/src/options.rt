@@ -15,20 +15,20 @@ static PROFILES: [&str; 3] = ["level3", "open", "strict"];
 /// The attestations that are accepted.
 static ATTESTATIONS: [&str; 3] = ["any", "none", "self"];
 
-/// What is told where a value is no number that it may be.
+/// What is answered where a value is not a number that it may be.
 const BAD_MAX_CREDENTIALS: &str = "--max-credentials takes a number from 1 to 1000000\n";
 
 const BAD_EXPIRE: &str = "--expire takes a number of seconds from 1 to 1000000\n";
 
 const BAD_AT_LEAST: &str = "--at-least takes a number\n";
 
-/// What is told where a value is missing.
+/// What is answered where a value is missing.
 const MISSING: &str = "FILE, --rp-id or --origin is missing\n";
 
 /// What is logged.
 static LOGS: [&str; 2] = ["refusals", "all"];
 
-/// What is told on standard error.
+/// What is answered on standard error.
 #[derive(Clone, Copy, Debug, PartialEq, Eq, Drop)]
 pub(crate) enum Log {
     /// Refusals, failures, sessions that don't begin, and backups that fail.
@@ -66,9 +66,9 @@ pub(crate) struct Options<'a> {
     pub is_wary: bool,
     /// The number of a session that is known to have been begun, and 0 where none is known.
     pub at_least: u64,
-    /// What is told on standard error, if anything.
+    /// What is answered on standard error, if anything.
     pub log: Option<Log>,
-    /// After how many seconds an open session ends by itself.
+    /// After how many seconds an open session expires.
     pub expire: u32,
 }
 
@@ -267,7 +267,7 @@ fn log_named(word: Option<&str>) -> Option<Log> {
     }
 }
 
-/// The number of a word, or this one where there is none; nothing where the word is no number.
+/// The number of a word, or this one where there is none; nothing where the word is not a number.
 fn number(word: Option<&str>, absent: u64) -> Option<u64> {
     match word {
         Some(word) => word.parse::<u64>().ok(),
@@ -294,7 +294,7 @@ struct Numbers {
     at_least: u64,
 }
 
-/// The numbers that were read; or what is told of the first that is no number, or out of its bounds.
+/// The numbers that were read; or what is answered of the first that is not a number, or out of its bounds.
 fn numbers_of(matches: &ArgMatches<'_>) -> Result<Numbers, &'static str>
     ensures within { IfOk result (λ n.
         ((1 ≤ n.expire) × (n.expire ≤ 1000000)) × ((1 ≤ n.max_credentials) × (n.max_credentials ≤ 1000000))) }
@@ -345,7 +345,7 @@ fn options_with<'a>(
     }
 }
 
-/// The options that were read; or what is told of a value that is missing, no number, or out of its bounds.
+/// The options that were read; or what is answered of a value that is missing, not a number, or out of its bounds.
 fn options_of<'a>(
     alloc: Global,
     matches: &ArgMatches<'a>,
@@ -371,7 +371,7 @@ fn options_of<'a>(
     Ok(Ok(options_with(matches, file, rp_id, origins, top_origins, numbers)))
 }
 
-/// What is told in place of serving.
+/// What is answered in place of serving.
 #[derive(Drop)]
 pub(crate) struct Told {
     /// The text, with the end of its last line.
@@ -391,7 +391,7 @@ fn told_by(alloc: Global, error: &Error) -> Result<Told, AllocError> {
     })
 }
 
-/// The options that were read, or what is told of a value.
+/// The options that were read, or what is answered of a value.
 fn options_or_told<'a>(
     alloc: Global,
     matches: &ArgMatches<'a>,
@@ -408,7 +408,7 @@ fn options_or_told<'a>(
     }
 }
 
-/// The options of the arguments, the program's name first, with this text after the help; or what is told in place of serving.
+/// The options of the arguments, the program's name first, with this text after the help; or what is answered in place of serving.
 pub(crate) fn asked_for<'a>(
     alloc: Global,
     help: &'a str,

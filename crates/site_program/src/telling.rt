@@ -1,4 +1,4 @@
-//! What is told of answers.
+//! What is answered of answers.
 
 ghost use Rattle.std.specs.Prelude.{ℕ, List, IfOk, OnOk, string_bytes};
 ghost use Rattle.std.specs.Io.KnownBytes.{Appends};

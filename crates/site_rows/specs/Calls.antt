@@ -34,7 +34,7 @@ pub record Writes {S A E : Type 0} (g : Ghosts S) (old new : S) (result : Result
   pub schema : KeepsSchema (g.view old) (g.view new)
   pub quiet : IsQuiet g old new
 
--- a call that fails has its cause: want of memory, a fault of the disk during it, or a row that no store takes
+-- a call that fails has its cause: running out of memory, a fault of the disk during it, or a row that no store takes
 abbrev pub StoreFails : {S A : Type 0} → Ghosts S → S → S → Type 0 → Result A StoreError → Type 0
 StoreFails g old new refused result = IsClean (g.view new) → IfErr result (HasCause (g.view old) (MoreFaults (g.faults old) (g.faults new)) refused)
 

@@ -98,7 +98,7 @@ same_spelled s t p q same =
     let whole : session_with s.ends s.ceremony ≡ session_with t.ends t.ceremony = cc (both.0, both.1) in
     whole
 
--- the text and its hash are told apart by their lengths
+-- their lengths distinguish the text and its hash
 pub same_sealed : (x y g h : List ℕ) → length g ≡ 32 → length h ≡ 32 → x ++ g ≡ y ++ h → (x ≡ y) × (g ≡ h)
 same_sealed x y g h p q same =
     let long : length x ≡ length y = omega (arith, p, q, length-append x g, length-append y h, ap length same) in

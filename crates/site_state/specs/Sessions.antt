@@ -144,7 +144,7 @@ refusals_in_order = errors.BadInput ∷ errors.SessionsFull ∷ errors.Exhausted
 abbrev pub PassesOpening : Profile → OpenSessions → Opening → Type 0
 PassesOpening profile s o = Each (PassesOpeningStep profile s o) refusals_in_order
 
--- the first reason is named; want of memory says nothing
+-- the first reason is named; running out of memory says nothing
 abbrev pub IsRefused : Profile → OpenSessions → Opening → BeginError → Type 0
 IsRefused profile s o errors.Memory = Unit {0}
 IsRefused profile s o e = FirstFailing (PassesOpeningStep profile s o) refusals_in_order e

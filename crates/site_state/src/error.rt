@@ -25,7 +25,7 @@ pub enum BeginError {
 }
 
 impl BeginError {
-    /// The number of the refusal; none for want of memory.
+    /// The number of the refusal; none if memory runs out.
     pub fn number(&self) -> Option<u8>
         ensures { result ≡ refusal_number self.now }
     {

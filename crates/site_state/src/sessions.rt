@@ -316,7 +316,7 @@ impl Sessions {
         self.by_number.len() < self.max_open
     }
 
-    /// Why what is asked may not begin; whether it is within its limits is handed in.
+    /// Why what is asked may not begin; whether it is within its limits is passed.
     fn admit(&self, is_input: bool) -> Result<(), BeginError>
         ensures passes { (profile : IdProfile) (asked : Opening) → IsTrue is_input ↔ IsInput profile asked
             → OnOk result (PassesOpening profile self.now asked) }
@@ -335,7 +335,7 @@ impl Sessions {
         Ok(())
     }
 
-    /// Opens a session under its number, where the next has the number that is handed in. One that was open there is dropped.
+    /// Opens a session under its number, where the next has the number that is passed. One that was open there is dropped.
     fn open(&mut self, number: u64, session: Session, next: u64) -> Result<(), AllocError>
         requires limits { AreLimits (Some (session_view session)) }
         requires number { HasNumber next number (session_view session) }

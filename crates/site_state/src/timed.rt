@@ -225,7 +225,7 @@ impl TimedSessions {
         }
     }
 
-    /// Ends each session that began before a second of the host's clock, and tells how many they were. Where there is no
+    /// Ends each session that began before a second of the host's clock, and answers how many there were. Where there is no
     /// memory nothing has changed.
     ///
     /// A clock that goes back ends no session early, but keeps one longer.

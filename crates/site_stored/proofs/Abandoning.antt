@@ -34,7 +34,7 @@ site_over rp policy key lifetime next mark next_mark count last most held = reco
   is_pending = held.is_pending;
 }
 
--- where no session is told, the site is sound as it was
+-- where no session is answered, the site is sound as it was
 pub untold_sound : {S : Type 0} (view : S → View) (rp : RelyingParty) (policy : Policy) (key : List ℕ) (lifetime next mark next_mark count last most : ℕ)
     (old new : SiteStore S) (e : SessionFailure) → IsSound view (site_over rp policy key lifetime next mark next_mark count last most old)
     → KeepsNumbers old new → IsUntold old new e → IsSound view (site_over rp policy key lifetime next mark next_mark count last most new)
@@ -58,7 +58,7 @@ pub same_site : {S : Type 0} (rp : RelyingParty) (policy : Policy) (key : List �
     → new ≡ old → site_over rp policy key lifetime next mark next_mark count last most new ≡ site_over rp policy key lifetime next mark next_mark count last most old
 same_site rp policy key lifetime next mark next_mark count last most old new same = ap (site_over rp policy key lifetime next mark next_mark count last most) same
 
--- what is told where the text is not that of an open session
+-- what is answered where the text is not that of an open session
 pub tells_none : {S : Type 0} (s : StoredState S) (now : ℕ) (text : List ℕ) (ended : Endings) (given : Option Given) (old new : View) → given ≡ None
     → IsOpenIn s.key s.rp.rp_id s.next ended now text given → new.trees ≡ old.trees → HoldsEndings 8 ended old.trees
     → (after : Endings) × TellsAbandoned s now text false ended after × HoldsEndings 8 after new.trees

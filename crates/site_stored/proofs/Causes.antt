@@ -36,7 +36,7 @@ caused_since old mid a b c U V D E failures.Shut up f g h = tt
 caused_since old mid a b c U V D E (failures.Failed e) up f g (never, inl h) = (never, inl (cause_since old mid a b c U V e up f never h))
 caused_since old mid a b c U V D E (failures.Failed e) up f g (never, inr bad) = (never, inr (bad.0, g bad.1))
 
--- what else may be told of it
+-- what else may be said of it
 pub caused_as : (old : View) (a b : ℕ) (U V D E : Type 0) (e : Failure) → (U → V) → (D → E) → IsCaused old a b U D e → IsCaused old a b V E e
 caused_as old a b U V D E failures.Shut f g h = tt
 caused_as old a b U V D E (failures.Failed e) f g (never, inl h) = (never, inl (cause_since old old a a b U V e (omega arith) f never h))

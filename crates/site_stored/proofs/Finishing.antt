@@ -160,7 +160,7 @@ refuses_signed_in old mid profile found r now trees reals is (f, same, inr row) 
 
 -- ---- what else a ceremony that is not finished leaves
 
--- where no session is told: there was no memory and nothing has changed, or the store has failed
+-- where no session is answered: there was no memory and nothing has changed, or the store has failed
 pub untold_not_finished : {S W A : Type 0} (view : S → View) (old new : StoredState S) (h k : SiteStore S) (e : SessionFailure) (Q : VerificationError W → Type 0)
     (r : Result A (FinishFailure W)) → IsErrAnd r (λ f. f ≡ finish_refusal e) → old.is_shut ≡ false → (k ≡ h → new ≡ old) → new.is_shut ≡ k.is_shut
     → Q errors.Memory → IsUntold h k e → IfErr r (IsNotFinished view old new Q)

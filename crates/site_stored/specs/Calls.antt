@@ -113,7 +113,7 @@ IsNotBegun old new o (begins.Site why) = (new ≡ old) × (((why ≡ BadInput) �
 IsNotBegun old new o begins.NoNumber = (new ≡ old) × (2 ^ 63 ≤ old.next + 1001)
 IsNotBegun old new o (begins.Store why) = IsFailure old new why
 
--- a session begins: its number, its challenge and its text are told, the next number is one more, and each credential is as before. However many
+-- a session begins: its number, its challenge and its text are answered, the next number is one more, and each credential is as before. However many
 -- were begun, they are not why none begins; a site that was shut says so
 pub record Begins {S : Type 0} (g : Ghosts S) (old new : StoredState S) (o : Opening) (words : List ℕ) (now : ℕ) (result : Result Begun BeginFailure) : Type 0 where
   pub begun : IfOk result (λ b. (b.session ≡ old.next) × (b.challenge ≡ challenge_of old.next words) × (b.text.items ≡ begun_text old o now))
@@ -127,7 +127,7 @@ pub record Begins {S : Type 0} (g : Ghosts S) (old new : StoredState S) (o : Ope
   pub shut : old.is_shut ≡ true → IsErrOf result (begins.Store failures.Shut)
   pub quiet : IsQuiet g old.store new.store
 
--- what is told of a session that is to be abandoned: true where its text is that of an open one, which has ended; false where it is not, and nothing
+-- what is answered of a session that is to be abandoned: true where its text is that of an open one, which has ended; false where it is not, and nothing
 -- has changed
 abbrev pub TellsAbandoned : {S : Type 0} → StoredState S → ℕ → List ℕ → Bool → Endings → Endings → Type 0
 TellsAbandoned s now text true before after = EndsSession s abandoned now text before after
@@ -144,7 +144,7 @@ IsFound placed id (Some c) = (place : ℕ) × IsAt placed id place c
 abbrev pub judged_sign_in : {S : Type 0} → StoredState S → Option ExpectedSignIn → Option Credential → AuthenticatorAssertionResponse → JudgedSignIn
 judged_sign_in s session found r = record { rp = s.rp; session = session; credential = found; response = r }
 
--- a response passes each step in the open session of a text, with the credential of its id; who signed in is told; and that credential alone has
+-- a response passes each step in the open session of a text, with the credential of its id; who signed in is answered; and that credential alone has
 -- changed, which keeps the counter and the mark of eligibility that came
 pub record SignsIn {S : Type 0} (valid : Validity) (placed : Placed) (ended : Endings) (s : StoredState S) (now : ℕ) (text : List ℕ)
     (r : AuthenticatorAssertionResponse) (x : SignedIn) (after : Placed) : Type 0 where
@@ -166,7 +166,7 @@ abbrev pub IsNotFinished : {S W : Type 0} → (S → View) → StoredState S →
 IsNotFinished view old new IsRefusal (finishes.Site why) = IsSame view old new × IsRefusal why
 IsNotFinished view old new IsRefusal (finishes.Store why) = IsFailure old new why
 
--- the first step that a response does not pass is named, with the credential that is found for it; want of memory says nothing
+-- the first step that a response does not pass is named, with the credential that is found for it; running out of memory says nothing
 abbrev pub RefusesSignIn : {S : Type 0} → Validity → Placed → Endings → StoredState S → ℕ → List ℕ → AuthenticatorAssertionResponse
     → VerificationError SignInRefusal → Type 0
 RefusesSignIn valid placed ended s now text r errors.Memory = ⊤
@@ -180,7 +180,7 @@ RefusesSignIn valid placed ended s now text r (errors.Refused step) =
 abbrev pub is_full : {S : Type 0} → StoredState S → Bool
 is_full s = not (nat_lt s.count s.most && nat_lt s.last 4294967295)
 
--- a response as it is judged by what a session expects; whether a credential has an id is told by a test
+-- a response as it is judged by what a session expects; whether a credential has an id is answered by a test
 abbrev pub judged_registration : {S : Type 0} → StoredState S → Option ExpectedRegistration → (List ℕ → Bool) → responses.AuthenticatorAttestationResponse
     → JudgedRegistration
 judged_registration s session is_registered r = record {
@@ -208,7 +208,7 @@ registered e a c = record {
   retired = false;
 }
 
--- a response passes each step in the open session of a text, since no credential has its id; which one is told; and it stands last, and nothing
+-- a response passes each step in the open session of a text, since no credential has its id; which one is answered; and it stands last, and nothing
 -- else has changed
 pub record Registers {S : Type 0} (valid : Validity) (placed : Placed) (ended users : Endings) (s : StoredState S) (now : ℕ) (text : List ℕ)
     (r : responses.AuthenticatorAttestationResponse) (x : Registered) (after : Placed) : Type 0 where
@@ -226,7 +226,7 @@ pub record Registers {S : Type 0} (valid : Validity) (placed : Placed) (ended us
   pub tells_format : string_bytes x.format ≡ (counted s.rp.profile expected.attestation object).fmt
   pub after_is : after ≡ finite.insert placed (s.last + 1) (registered expected data_read credential)
 
--- the first step that a response does not pass is named; want of memory says nothing
+-- the first step that a response does not pass is named; running out of memory says nothing
 abbrev pub RefusesRegistration : {S : Type 0} → Validity → Placed → Endings → Endings → StoredState S → ℕ → List ℕ → responses.AuthenticatorAttestationResponse
     → VerificationError RegistrationRefusal → Type 0
 RefusesRegistration valid placed ended users s now text r errors.Memory = ⊤
@@ -236,14 +236,14 @@ RefusesRegistration valid placed ended users s now text r (errors.Refused step) 
 
 -- ---- credentials end
 
--- what is told of a credential that is to be retired: true where it was there and not retired, and it is retired now; false where
+-- what is answered of a credential that is to be retired: true where it was there and not retired, and it is retired now; false where
 -- none has the id or it was retired before, and nothing has changed
 abbrev pub TellsRetired : Placed → List ℕ → Bool → Placed → Type 0
 TellsRetired placed id true after =
     (place : ℕ) × (c : Credential) × IsAt placed id place c × (c.retired ≡ false) × (after ≡ finite.insert placed place (retired c))
 TellsRetired placed id false after = (after ≡ placed) × ((found : Option Credential) × IsFound placed id found × ForSome found (λ c. c.retired ≡ true))
 
--- what is told of a credential that is to be deleted: true where it was there, and it is gone; false where none has the id
+-- what is answered of a credential that is to be deleted: true where it was there, and it is gone; false where none has the id
 abbrev pub TellsDeleted : Placed → List ℕ → Bool → Placed → Type 0
 TellsDeleted placed id true after = (place : ℕ) × (c : Credential) × IsAt placed id place c × (after ≡ finite.remove placed place)
 TellsDeleted placed id false after = (after ≡ placed) × HasNone placed id
@@ -272,7 +272,7 @@ abbrev pub TellsForgotten : Placed → List ℕ → Bool → Details → Trees �
 TellsForgotten placed id true details after = (place : ℕ) × (c : Credential) × IsAt placed id place c × HoldsDetails (finite.remove details place) after
 TellsForgotten placed id false details after = HoldsDetails details after
 
--- what is told of the credential of an id: what is known of it; none where nothing is, or where none has the id
+-- what is answered of the credential of an id: what is known of it; none where nothing is, or where none has the id
 abbrev pub TellsDetail : Placed → List ℕ → Details → Option Detail → Type 0
 TellsDetail placed id details told =
     ((place : ℕ) × (c : Credential) × IsAt placed id place c × (told ≡ finite.get details place)) ⊎ (HasNone placed id × (told ≡ None))
@@ -284,7 +284,7 @@ abbrev pub is_users : List ℕ → Option Credential → Bool
 is_users user None = false
 is_users user (Some c) = bytes_eq c.user user
 
--- what is told of a user who is to be erased: how many credentials the user had. None of them is there, and every other is as before
+-- what is answered of a user who is to be erased: how many credentials the user had. None of them is there, and every other is as before
 abbrev pub TellsErased : Placed → List ℕ → ℕ → Placed → Type 0
 TellsErased placed user told after =
     (told ≡ length (filter (λ c. bytes_eq c.user user) (rows_of placed)))
@@ -296,7 +296,7 @@ TellsAllForgotten placed user details trees =
     (after : Details) × HoldsDetails after trees
     × ((place : ℕ) → finite.get after place ≡ (if is_users user (finite.get placed place) then None else finite.get details place))
 
--- what is told of a user whose credentials are to be retired: how many were not. Each of the user's is retired, and every other is as before
+-- what is answered of a user whose credentials are to be retired: how many were not. Each of the user's is retired, and every other is as before
 abbrev pub TellsAllRetired : Placed → List ℕ → ℕ → Placed → Type 0
 TellsAllRetired placed user told after =
     (told ≡ length (filter (λ c. not c.retired) (filter (λ c. bytes_eq c.user user) (rows_of placed))))

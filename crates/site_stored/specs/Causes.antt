@@ -54,7 +54,7 @@ AreUnknownEndings db = IsUnknownEnding ended_session_tree db ⊎ IsUnknownEnding
 abbrev pub RefusesEnding : ℕ → View → Type 0
 RefusesEnding tree old = (number : ℕ) × (ending : Ending) × (¬ IsStorableRow (old.reals tree) (ending_row number ending))
 
--- the store's failure has its cause in this call, and is never Broken: want of memory; a fault of the disk, counted in it; a row that no store
+-- the store's failure has its cause in this call, and is never Broken: running out of memory; a fault of the disk, counted in it; a row that no store
 -- takes; or, where it is Corrupt, damage
 abbrev pub IsCaused : View → ℕ → ℕ → Type 0 → Type 0 → Failure → Type 0
 IsCaused old before after refused damage failures.Shut = ⊤

@@ -196,7 +196,7 @@ abbrev pub judged_by : RelyingParty → Policy → Option ExpectedRegistration �
 judged_by rp policy session r is_registered is_full =
     record { rp = rp; policy = policy; session = session; response = r; is_registered = is_registered; is_full = is_full }
 
--- whether a credential has an id, as it is told
+-- whether a credential has an id, as it is given
 abbrev pub TellsHad : Placed → List ℕ → Bool → Type 0
 TellsHad placed id true = (place : ℕ) × (c : Credential) × IsAt placed id place c
 TellsHad placed id false = HasNone placed id
@@ -276,17 +276,17 @@ IsOpenIn key rp_id next ended now text (Some g) = IsGivenAs key rp_id next now t
 IsOpenIn key rp_id next ended now text None =
     (n : ℕ) (x : Session) → IsGiven key rp_id next now text n x → finite.get ended n ≡ None → ⊥
 
--- how it is told that a session can't be read
+-- how it is answered that a session can't be read
 abbrev pub finish_refusal : {W : Type 0} → SessionFailure → FinishFailure W
 finish_refusal sessions.Memory = finishes.Site VerificationError.Memory
 finish_refusal (sessions.Store why) = finishes.Store why
 
--- why no session is told: there was no memory, and nothing has changed; or the store has failed, and is shut
+-- why no session is answered: there was no memory, and nothing has changed; or the store has failed, and is shut
 abbrev pub IsUntold : {S : Type 0} → SiteStore S → SiteStore S → SessionFailure → Type 0
 IsUntold old new sessions.Memory = new ≡ old
 IsUntold old new (sessions.Store why) = (new.is_shut ≡ true) × (why ≡ failures.Shut → ⊥)
 
--- what is said of the store's failure, where it is why no session is told
+-- what is said of the store's failure, where it is why no session is answered
 abbrev pub IfSessionStore : (Failure → Type 0) → SessionFailure → Type 0
 IfSessionStore P sessions.Memory = ⊤
 IfSessionStore P (sessions.Store why) = P why

@@ -115,7 +115,7 @@ abbrev pub with_site : List ℕ → ℕ → Trees → Trees
 with_site rp_id next db = with_tree db site_tree (put_row (site_row rp_id next) (db site_tree))
 
 -- the columns: number, mark, follows, sum; a mark of 8 bytes, that of the commit before, and the first one times a number of 64 bits, by which a
--- page is told that was not written to its end
+-- page is answered that was not written to its end
 abbrev pub mark_row : ℕ → ℕ → Row
 mark_row mark follows =
     Int (pos 1) ∷ Null ∷ Blob (to_be_bytes w64 mark) ∷ Blob (to_be_bytes w64 follows) ∷ Blob (to_be_bytes w128 (mark * 11400714819323198485)) ∷ []

@@ -1,4 +1,4 @@
--- What is kept of authenticator data: for what is told of a ceremony, and with a credential.
+-- What is kept of authenticator data: for what is answered of a ceremony, and with a credential.
 use Rattle.std.specs.Prelude.{◌≡◌, ℕ, List, Some, option_map}
 use Rattle.authdata.specs.Layout.{AuthenticatorData}
 use Rattle.site_state.specs.Details.{Detail}

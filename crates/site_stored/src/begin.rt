@@ -25,7 +25,7 @@ fn has_number(next: u64) -> bool
 }
 
 impl<S: Store> StoredSite<S> {
-    /// When a session ends by itself that begins at this second.
+    /// When a session that begins at this second expires.
     fn ends_at(&self, now: u64) -> u64
         ensures { result ≡ until now (min self.now.lifetime longest) }
     {

@@ -126,7 +126,7 @@ impl<S: Store> StoredSite<S> {
         self.held.durable.saturating_sub(1)
     }
 
-    /// Commits what was written since the last commit, if anything was. What the calls since then answered may be told now.
+    /// Commits what was written since the last commit, if anything was. What the calls since then answered may be written now.
     ///
     /// More numbers are reserved in the same commit, and the next session has none that an earlier commit has reserved: so its
     /// number differs from that of each earlier copy of the store (`open`). The commit has a mark of its own, and names that of the

@@ -43,7 +43,7 @@ fn credential_of(alloc: Global, row: &Columns) -> Result<Row, StoreError>
     }
 }
 
-/// The credential at the cursor; none where there is no row.
+/// The credential at the cursor; none where none is there.
 fn next_credential<S: Store>(
     alloc: Global,
     store: &mut S,

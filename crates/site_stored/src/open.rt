@@ -91,7 +91,7 @@ fn place_of(alloc: Global, row: &Row) -> Result<u32, OpenFailure>
     }
 }
 
-/// The place of the row at the cursor, which is taken; none if there is no row.
+/// The place of the row at the cursor, which is taken; none if none is there.
 fn next_place<S: Store>(
     alloc: Global,
     store: &mut S,

@@ -1,6 +1,6 @@
 //! A client of a security key: it registers or signs in, and tells what goes to the site.
 //!
-//! `uses_client WORDS register|sign-in`: WORDS is the file of random bytes. It is told `challenge`, the site's 32 bytes.
+//! `uses_client WORDS register|sign-in`: WORDS is the file of random bytes. It reads `challenge`, the site's 32 bytes.
 //! The cable is lines too: `packet` goes to the key, `out` comes from it.
 #![tactic(auto)]
 

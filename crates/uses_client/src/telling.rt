@@ -1,4 +1,4 @@
-//! What the client hands on to the site.
+//! What the client passes to the site.
 
 use crate::asking::Act;
 use client::attestation_object;

@@ -1,8 +1,8 @@
 //! A security key whose user always agrees.
 //!
 //! `uses_key WORDS`: WORDS is the file of random bytes. The cable is lines: `packet` comes in, `out` goes out. The host
-//! makes keys and signatures, as a secure element would: it is told `secret`, and tells `public`, the key's x and y of
-//! ES256 and then its x of EdDSA; it is told `algorithm` (01 of ES256, 02 of EdDSA), `secret` and `message`, and tells
+//! makes keys and signatures, as a secure element would: it reads `secret`, and tells `public`, the key's x and y of
+//! ES256 and then its x of EdDSA; it reads `algorithm` (01 of ES256, 02 of EdDSA), `secret` and `message`, and tells
 //! `signature`. Each packet's answer ends with `done`.
 #![tactic(auto)]
 

@@ -1,8 +1,8 @@
 //! A site of one account, whose host has the mathematics: the account registers a key and signs in with it.
 //!
-//! `uses_site WORDS`: WORDS is the file of random bytes. The page is lines. The site tells `challenge`, and is told `object`
-//! and `client-data`; then a `challenge` again, and is told `credential`, `authenticator-data`, `signature` and
-//! `client-data`. It tells the `key` (a COSE key), `message` and `signature` that its host is to verify, and is told
+//! `uses_site WORDS`: WORDS is the file of random bytes. The page is lines. The site tells `challenge`, and reads `object`
+//! and `client-data`; then a `challenge` again, and reads `credential`, `authenticator-data`, `signature` and
+//! `client-data`. It tells the `key` (a COSE key), `message` and `signature` that its host is to verify, and reads
 //! `valid 01` where the host found it so.
 #![tactic(auto)]
 

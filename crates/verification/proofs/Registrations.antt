@@ -241,7 +241,7 @@ before x is_registered is_full = record {
   is_full = is_full;
 }
 
--- a step says the same of both
+-- a step says the same for both
 abbrev Same : Validity → JudgedRegistration → Validity → JudgedRegistration → RegistrationRefusal → Type 0
 Same valid x other y w = (PassesRegistrationStep valid x w → PassesRegistrationStep other y w)
     × ((PassesRegistrationStep valid x w → ⊥) → PassesRegistrationStep other y w → ⊥)

@@ -1,5 +1,5 @@
 -- The steps on client data that both ceremonies have, for a ceremony's type and challenge. Private functions are
--- proved against these; the steps of the ceremonies say the same of their own response.
+-- proved against these; the steps of the ceremonies say the same for their own response.
 use Rattle.std.specs.Prelude.{◌≡◌, ℕ, Bool, false, List, [], ◌∷◌, Contains, IsSome, IsUtf8}
 use Rattle.std.specs.Option.{ForSome}
 use Rattle.clientdata.specs.Reading.{seen_of}
@@ -27,7 +27,7 @@ abbrev pub client_data_order : List ClientDataStep
 client_data_order =
     line.Readable ∷ line.Type ∷ line.Challenge ∷ line.Origin ∷ line.CrossOrigin ∷ line.TopOrigin ∷ line.TokenBinding ∷ []
 
--- the first step that fails is named; want of memory says nothing
+-- the first step that fails is named; running out of memory says nothing
 abbrev pub Fails : CeremonyType → List ℕ → RelyingParty → List ℕ → ClientDataError → Type 0
 Fails kind challenge rp t (errors.Fails line) = FirstFailing (PassesClientDataStep kind challenge rp t) client_data_order line
 Fails kind challenge rp t errors.Memory = Unit {0}

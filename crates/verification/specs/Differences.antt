@@ -42,7 +42,7 @@ SignInsDiffer valid x sign_in.WrongTopOrigin =
 SignInsDiffer valid x sign_in.TokenBinding = PassesSignInStep valid (sign_in_of Level3 x) sign_in.TokenBinding
 SignInsDiffer valid x w = PassesSignInStep valid (sign_in_of Level3 x) w ↔ PassesSignInStep valid (sign_in_of Open x) w
 
--- a step of a registration asks the same of both
+-- a step of a registration asks the same for both
 abbrev pub IsSame : Validity → JudgedRegistration → RegistrationRefusal → Type 0
 IsSame valid x w = PassesRegistrationStep valid (registration_of Level3 x) w ↔ PassesRegistrationStep valid (registration_of Open x) w
 

@@ -103,7 +103,7 @@ PassesRegistrationStep valid x step.UserNotVerified = ForSome x.session (λ e. A
 -- the key's algorithm is one of those offered
 PassesRegistrationStep valid x step.AlgorithmNotOffered = ForSome x.session
     (λ e. Attested x.rp.profile x.response (λ o a c. Contains e.algorithms (alg_of c.key)))
--- the client names the credential that is attested, where its id is handed in
+-- the client names the credential that is attested, where its id is passed
 PassesRegistrationStep valid x step.OtherId =
     ForSome x.response.raw_id (λ raw_id. Attested x.rp.profile x.response (λ o a c. raw_id ≡ c.id))
 -- the statement's format is known, of what counts as the object

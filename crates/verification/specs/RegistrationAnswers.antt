@@ -28,7 +28,7 @@ IsVerifiedRegistration x v =
 abbrev pub new_credential : AttestedRegistration → NewCredential
 new_credential v = record { id = v.credential.id; key = v.credential.key; sign_count = v.auth_data.sign_count; eligible = is_set v.auth_data.flags BE }
 
--- the first step that fails is named; want of memory says nothing
+-- the first step that fails is named; running out of memory says nothing
 abbrev pub IsRefused : Validity → JudgedRegistration → VerificationError RegistrationRefusal → Type 0
 IsRefused valid x (errors.Refused w) = IsFirstFailing valid x w
 IsRefused valid x errors.Memory = Unit {0}
@@ -43,7 +43,7 @@ step_of line.CrossOrigin = step.CrossOrigin
 step_of line.TopOrigin = step.WrongTopOrigin
 step_of line.TokenBinding = step.TokenBinding
 
--- the bytes are no attestation object; want of memory says nothing
+-- the bytes are no attestation object; running out of memory says nothing
 abbrev pub IsNoObject : List ℕ → VerificationError RegistrationRefusal → Type 0
 IsNoObject bs (errors.Refused step.BadAttestationObject) = (o : Attestation) → ObjectOf o bs → ⊥
 IsNoObject bs (errors.Refused w) = ⊥

@@ -69,7 +69,7 @@ IsVerifiedAs required a = required ≡ true → is_set a.flags UV ≡ true
 abbrev pub never : Validity
 never key message signature = ⊥
 
--- of these steps the first that fails is named; want of memory says nothing
+-- of these steps the first that fails is named; running out of memory says nothing
 abbrev pub FailsIn : {W : Type 0} → (W → Type 0) → List W → VerificationError W → Type 0
 FailsIn Passes steps (errors.Refused w) = FirstFailing Passes steps w
 FailsIn Passes steps errors.Memory = Unit {0}

@@ -18,7 +18,7 @@ use Rattle.verification.specs.declared.refusal.SignInRefusal.TheVariants as step
 abbrev pub IsVerifiedSignIn : JudgedSignIn → VerifiedAssertion → Type 0
 IsVerifiedSignIn x v = AuthOf x.rp.profile (lent_auth_view v.auth_data) x.response.auth_data
 
--- the first step that fails is named; want of memory comes only where the steps on the session and the
+-- the first step that fails is named; running out of memory comes only where the steps on the session and the
 -- credential are passed
 abbrev pub IsRefused : Validity → JudgedSignIn → VerificationError SignInRefusal → Type 0
 IsRefused valid x (errors.Refused w) = IsFirstFailing valid x w

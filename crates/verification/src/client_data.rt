@@ -21,7 +21,7 @@ pub(crate) enum ClientDataStep {
     TokenBinding,
 }
 
-/// Why client data are refused: the first step that fails, or want of memory.
+/// Why client data are refused: the first step that fails, or that memory ran out.
 #[derive(Clone, Copy, Debug, PartialEq, Eq, Drop)]
 pub(crate) enum ClientDataError {
     Fails(ClientDataStep),

@@ -91,7 +91,7 @@ fn is_unframed(seen: &Seen) -> bool
 }
 
 impl RelyingParty {
-    /// A relying party of the strict profile, of this rp id and these origins, of which each is compared as a text.
+    /// A relying party of the strict profile, of this rp id and these origins, each compared as a text.
     /// Nothing is asked of their lengths.
     pub fn new(alloc: Global, rp_id: &str, origins: &[&str]) -> Result<RelyingParty, AllocError>
         ensures { IfOk result (λ p. p ≡ record { rp_id = rp_id.now; origins = texts_of origins.now; top_origins = []; profile = Strict }) }
@@ -119,7 +119,7 @@ impl RelyingParty {
     }
 
     /// The same where other sites' pages of these origins may frame its own (WebAuthn Level 3, sections 7.1 and 7.2,
-    /// `topOrigin`), of which each is compared as a text. Level 3 alone looks at them.
+    /// `topOrigin`), each compared as a text. Level 3 alone looks at them.
     pub fn framed_by(
         alloc: Global,
         profile: Profile,

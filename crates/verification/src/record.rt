@@ -72,6 +72,6 @@ pub struct RegistrationParts<'a> {
     pub object: &'a [u8],
     /// The client data as they came.
     pub client_data: &'a [u8],
-    /// The credential id as the client names it (`rawId`), where it is handed in.
+    /// The credential id as the client names it (`rawId`), where it is passed.
     pub raw_id: Option<&'a [u8]>,
 }

@@ -20,7 +20,7 @@ pub enum SignInRefusal {
     /// 2: the session lists the credentials that may answer, and this is none of them.
     #[error("the credential is not one that the session allows")]
     CredentialNotAllowed,
-    /// 3: no credential with this id is registered, or it is retired, or the one handed in has another id.
+    /// 3: no credential with this id is registered, or it is retired, or the one passed has another id.
     #[error("no credential with this id is registered")]
     UnknownCredential,
     /// 4: the session or the response names another user than the credential's, or neither names one.
@@ -174,7 +174,7 @@ pub enum RegistrationRefusal {
     /// 11: the key's algorithm was not offered.
     #[error("the key's algorithm was not offered")]
     AlgorithmNotOffered,
-    /// 19: the client names another credential than the response attests: its `rawId`, where it is handed in, is another id.
+    /// 19: the client names another credential than the response attests: its `rawId`, where it is passed, is another id.
     #[error("the response's id is not the attested credential's")]
     OtherId,
     /// 12: the format of the attestation statement is neither `none` nor `packed`. In Level 3 steps 12 to 14 take it as `none`

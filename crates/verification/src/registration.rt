@@ -285,7 +285,7 @@ impl<'a, 'r> RegistrationAttempt<'a, 'r> {
 }
 
 /// Judges a registration by its response: it is verified where it passes each step of section 7.1 on the response;
-/// else the first step that it does not pass is told. Whether there is a place for the credential is left to
+/// else the first step that it does not pass is answered. Whether there is a place for the credential is left to
 /// `VerifiedRegistration::admit`.
 ///
 /// Memory is taken by the reader of the client data alone.

@@ -4,7 +4,7 @@ use crate::signature::SignatureView;
 use cose::{KeyView, Verifier, is_joined};
 
 /// What the host's own library found: one signature that it verified, or none. P-256, Ed25519 and RSA are computed there;
-/// here nothing is valid but the signature that is handed in, of just this message under just this key.
+/// here nothing is valid but the signature that is passed, of just this message under just this key.
 #[derive(Clone, Copy, Debug, Drop)]
 pub struct HostVerifier<'a> {
     /// The signature that the host verified. None where it verified none, or found the one that it was asked for invalid.
