@@ -56,25 +56,26 @@ def of_fido2(row: Mapping[str, Any]) -> Moved:
     return credential, None, data[:16]
 
 
+def _of_members(row: Mapping[str, Any], user: str, id: str, key: str, count: str, kind: str, kinds: Tuple[str, str], backed_up: str) -> Moved:
+    """A row whose members have these names; `kinds` are the values for a credential of one device and of several."""
+    single, several = kinds
+    kind_said, backed_up_said = row.get(kind), row.get(backed_up)
+    if kind_said not in (single, several, None) or not isinstance(backed_up_said, (bool, type(None))):
+        raise BadInput(f"{kind} is {single}, {several} or null, and {backed_up} true, false or null")
+    credential = Credential.from_cose(_bytes(row, id), _bytes(row, user), _bytes(row, key), _count(row, count),
+                                      None if kind_said is None else kind_said == several, transports=transports_in(row.get("transports")))
+    return credential, backed_up_said, None
+
+
 def of_py_webauthn(row: Mapping[str, Any]) -> Moved:
     """A row from py_webauthn."""
-    kind, backed_up = row.get("credential_device_type"), row.get("credential_backed_up")
-    if kind not in ("single_device", "multi_device", None) or not isinstance(backed_up, (bool, type(None))):
-        raise BadInput("credential_device_type is single_device, multi_device or null, and credential_backed_up true, false or null")
-    credential = Credential.from_cose(_bytes(row, "credential_id"), _bytes(row, "user"), _bytes(row, "credential_public_key"),
-                                      _count(row, "sign_count"), None if kind is None else kind == "multi_device",
-                                      transports=transports_in(row.get("transports")))
-    return credential, backed_up, None
+    return _of_members(row, "user", "credential_id", "credential_public_key", "sign_count", "credential_device_type",
+                       ("single_device", "multi_device"), "credential_backed_up")
 
 
 def of_simplewebauthn(row: Mapping[str, Any]) -> Moved:
     """A row from SimpleWebAuthn."""
-    kind, backed_up = row.get("deviceType"), row.get("backedUp")
-    if kind not in ("singleDevice", "multiDevice", None) or not isinstance(backed_up, (bool, type(None))):
-        raise BadInput("deviceType is singleDevice, multiDevice or null, and backedUp true, false or null")
-    credential = Credential.from_cose(_bytes(row, "id"), _bytes(row, "webauthnUserID"), _bytes(row, "publicKey"), _count(row, "counter"),
-                                      None if kind is None else kind == "multiDevice", transports=transports_in(row.get("transports")))
-    return credential, backed_up, None
+    return _of_members(row, "webauthnUserID", "id", "publicKey", "counter", "deviceType", ("singleDevice", "multiDevice"), "backedUp")
 
 
 READERS: Dict[str, Callable[[Mapping[str, Any]], Moved]] = {"fido2": of_fido2, "py_webauthn": of_py_webauthn, "simplewebauthn": of_simplewebauthn}

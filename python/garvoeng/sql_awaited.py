@@ -18,22 +18,19 @@ async def _coroutine(value: Any) -> Any:
     return await value
 
 
-def _loop() -> asyncio.AbstractEventLoop:
+def _loop(opened: Any) -> asyncio.AbstractEventLoop:
+    """The loop that waits for this call. Raises TypeError in a call that is not awaited; then a coroutine is closed."""
     loop = loop_of_call()
     if loop is None:
+        if inspect.iscoroutine(opened):
+            opened.close()
         raise TypeError("connect opens connections whose calls are awaited: they are for the calls whose names end in _async")
     return loop
 
 
 def waited(value: Any) -> Any:
     """Waits in the thread of an awaited call until the loop has awaited the value. Raises TypeError in a call that is not awaited."""
-    try:
-        loop = _loop()
-    except TypeError:
-        if inspect.iscoroutine(value):
-            value.close()
-        raise
-    return _on(loop, value)
+    return _on(_loop(value), value)
 
 
 def _on(loop: asyncio.AbstractEventLoop, value: Any) -> Any:
@@ -56,7 +53,7 @@ class Connection:
 
     def __init__(self, inner: Any) -> None:
         self.inner = inner
-        self._loop = _loop()
+        self._loop = _loop(inner)
         self._is_asyncpg = is_asyncpg(inner)
         self.autocommit = self._is_asyncpg or bool(getattr(inner, "autocommit", False))
         self._check_level()
